@@ -1,7 +1,8 @@
-# Runs as text, of the path's steps and of the program over a folder in memory: a faulty line ends
-# them with its number. A run of steps has a path of its own.
+# Runs as text, of the path's steps, of a disk's calls and of the program over a folder in memory: a
+# faulty line ends them with its number. A run of steps has a path of its own.
 . "$top/checks/lib"
 play=$top/crates/path_play/out/path_play
+disks=$top/crates/disk_play/out/disk_play
 cases=$top/crates/run_play/out/run_play
 
 # faulty WHAT TEXT OUT ERR: the text ends with this fault, by the program `play`.
@@ -29,6 +30,29 @@ run b' 'line 4: no path: *'
 refused put 0 synced 60' '' sh -c '"$0" <run' "$play"
 else
     skipped 'path_play is not built'
+fi
+
+play=$disks
+if [ -x "$play" ]; then
+    fresh
+    faulty 'an unknown call' 'case a\nlin x\n' 'case a
+lin x' 'line 2: no such line'
+    faulty 'a word too many behind a call' 'len c d\n' 'len c d: no such file' \
+        'line 1: a word that is missing, *'
+    faulty 'a file that is none' 'bytes a/b\n' 'bytes a/b: absent' \
+        'line 1: a word that is missing, *'
+    faulty 'bytes that are not for the end' 'append c 1 x\n' 'append c 1 x' \
+        'line 1: a disk in memory takes bytes at *'
+    printf 'case c\nwriter\nappend c 0 x\nlist\n' >run
+    expect 'calls over a folder' 0 'case c
+writer
+append c 0 x: done
+list: 1 c' '' sh -c '"$0" <run' "$play"
+    that 'a case leaves no folder' test ! -e disk_play_case
+    mkdir disk_play_case
+    faulty 'a folder in the way of a case' '# none\ncase b\n' 'case b' 'line 2: File exists *'
+else
+    skipped 'disk_play is not built'
 fi
 
 play=$cases

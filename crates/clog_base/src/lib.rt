@@ -5,8 +5,6 @@
 mod cell;
 mod crc;
 mod crc_tables;
-#[cfg(test)]
-mod crc_tests;
 mod fault;
 mod file_name;
 mod format;
@@ -18,8 +16,6 @@ mod position;
 mod row;
 mod rows;
 mod sizes;
-#[cfg(test)]
-mod tests;
 mod text;
 mod text_row;
 

@@ -10,6 +10,3 @@ pub use cell_map::CellMap;
 pub use clog_base::{Cell, CellKey, Kind, OutOfMemory, Table, Text};
 pub use laws::{merge_laws, order_laws, parting_laws};
 pub use newest::newer;
-
-#[cfg(test)]
-mod tests;

@@ -77,8 +77,8 @@ use Rattle.path_core.specs.Keys.{
   offset_of,
   ordinal_of,
 }
-use Rattle.clog_store.specs.Grows.{IsGrown, segments_with}
-use Rattle.clog_store.specs.Notes.{places_of}
+use Rattle.clog_segments.specs.Grows.{IsGrown, segments_with}
+use Rattle.clog_segments.specs.Notes.{places_of}
 use Rattle.clog_applied.specs.Appended.{appended, entries_in, is_in}
 use Rattle.clog_applied.specs.History.{LoggedLine, entry_of}
 use Rattle.clog_applied.specs.Log.{AreSyncedApart}

@@ -53,12 +53,12 @@ use Rattle.clog_table.specs.declared.table_file.TableFile.{TableFile}
 use Rattle.path_core.specs.declared.note.EntryNote.{EntryNote}
 use Rattle.path_core.specs.History.{IsHistory}
 use Rattle.path_core.specs.Keeper.{Holding, IsLoggedCell, PutFile}
-use Rattle.clog_store.specs.NoteLog.{HasLog, IsNoteLog}
-use Rattle.clog_store.specs.Notes.{places_of}
-use Rattle.clog_store.specs.OnDisk.{file_on}
-use Rattle.clog_store.specs.StoreFolder.{Deeds, IsSound, StoreLog, log_of}
-use Rattle.clog_store.specs.StoreOrder.{AreOrdered, AreSettled}
-use Rattle.clog_store.specs.StoreState.{HasGrown, HasOrdered, StoreState, deeds_by}
+use Rattle.clog_segments.specs.NoteLog.{HasLog, IsNoteLog}
+use Rattle.clog_segments.specs.Notes.{places_of}
+use Rattle.clog_segments.specs.OnDisk.{file_on}
+use Rattle.clog_segments.specs.StoreFolder.{Deeds, IsSound, StoreLog, log_of}
+use Rattle.clog_segments.specs.StoreOrder.{AreOrdered, AreSettled}
+use Rattle.clog_segments.specs.StoreState.{HasGrown, HasOrdered, StoreState, deeds_by}
 use Rattle.clog_store.proofs.OrderGoes.{ordered_appended}
 use Rattle.clog_applied.specs.Appended.{IsAppended}
 use Rattle.clog_applied.specs.Closed.{IsAnyFile}

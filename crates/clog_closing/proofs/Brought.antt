@@ -31,8 +31,8 @@ use Rattle.clog_scan.specs.Cut.{Section}
 use Rattle.clog_crash.specs.Grown.{Append, grown}
 use Rattle.clog_crash.specs.Log.{Write}
 use Rattle.clog_crash.specs.Sections.{segment_bytes}
-use Rattle.clog_store.specs.Grows.{AreBrought, IsGrown, segments_with}
-use Rattle.clog_store.specs.Life.{State}
+use Rattle.clog_segments.specs.Grows.{AreBrought, IsGrown, segments_with}
+use Rattle.clog_segments.specs.Life.{State}
 use Rattle.clog_closing.specs.Written.{IsWrittenBy, LacksLast}
 
 module _ {D : Type 0} (log : State D) (part : List Section) (appends : List Append)

@@ -28,10 +28,10 @@ use Rattle.path_core.specs.declared.note.EntryNote.{EntryNote}
 use Rattle.path_core.specs.History.{IsHistory}
 use Rattle.path_core.specs.Keeper.{Holding, MayDrop}
 use Rattle.path_core.specs.Keys.{ordinal_of}
-use Rattle.clog_store.specs.Grows.{IsGrown}
-use Rattle.clog_store.specs.NoteLog.{IsNoteLog}
-use Rattle.clog_store.specs.StoreFolder.{Deeds, HoldsStore, IsSound, StoreLog, log_of}
-use Rattle.clog_store.specs.StoreState.{
+use Rattle.clog_segments.specs.Grows.{IsGrown}
+use Rattle.clog_segments.specs.NoteLog.{IsNoteLog}
+use Rattle.clog_segments.specs.StoreFolder.{Deeds, HoldsStore, IsSound, StoreLog, log_of}
+use Rattle.clog_segments.specs.StoreState.{
   HasOrdered,
   HoldsIt,
   StoreState,

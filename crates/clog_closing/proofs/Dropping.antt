@@ -41,8 +41,8 @@ use Rattle.path_core.specs.Droppable.{is_of}
 use Rattle.path_core.specs.History.{IsHistory}
 use Rattle.path_core.specs.Keeper.{Holding, IsFiledIn, MayDrop, PutFile}
 use Rattle.path_core.specs.Parts.{touches}
-use Rattle.clog_store.specs.OnDisk.{file_on}
-use Rattle.clog_store.specs.StoreOrder.{IsFiledWhole}
+use Rattle.clog_segments.specs.OnDisk.{file_on}
+use Rattle.clog_segments.specs.StoreOrder.{IsFiledWhole}
 use Rattle.clog_applied.specs.Appended.{entries_in}
 use Rattle.clog_applied.specs.History.{LoggedLine, entry_of}
 use Rattle.clog_applied.proofs.Merged.{its_entry, of_entry}

@@ -11,8 +11,8 @@ use Rattle.clog_crash.specs.Log.{Write}
 use Rattle.clog_crash.specs.Runs.{placed_log}
 use Rattle.clog_crash.specs.Sections.{segment_bytes}
 use Rattle.path_core.specs.declared.note.EntryNote.{EntryNote}
-use Rattle.clog_store.specs.Grows.{IsGrown, segments_with}
-use Rattle.clog_store.specs.Notes.{places_of}
+use Rattle.clog_segments.specs.Grows.{IsGrown, segments_with}
+use Rattle.clog_segments.specs.Notes.{places_of}
 use Rattle.clog_store.proofs.SectionEnds.{last_of}
 use Rattle.clog_applied.specs.Appended.{appended}
 use Rattle.clog_applied.specs.History.{LoggedLine}

@@ -31,8 +31,8 @@ use Rattle.clog_crash.specs.Grown.{appends_of}
 use Rattle.clog_crash.specs.Log.{Write}
 use Rattle.clog_crash.specs.Runs.{placed_log}
 use Rattle.path_core.specs.declared.note.EntryNote.{EntryNote}
-use Rattle.clog_store.specs.Grows.{IsGrown, segments_with}
-use Rattle.clog_store.specs.Notes.{places_of}
+use Rattle.clog_segments.specs.Grows.{IsGrown, segments_with}
+use Rattle.clog_segments.specs.Notes.{places_of}
 use Rattle.clog_applied.specs.History.{LoggedLine, entry_of}
 use Rattle.clog_applied.proofs.Merged.{of_entry}
 use Rattle.clog_layout.specs.Logged.{AreNotesOf}

@@ -32,7 +32,7 @@ use Rattle.path_core.specs.declared.note.EntryNote.{EntryNote}
 use Rattle.path_core.specs.History.{IsHistory}
 use Rattle.path_core.specs.Keeper.{Holding, PutFile}
 use Rattle.path_core.specs.Whole.{IsWhole}
-use Rattle.clog_store.specs.OnDisk.{file_on}
+use Rattle.clog_segments.specs.OnDisk.{file_on}
 use Rattle.clog_applied.specs.Asked.{flushes}
 use Rattle.clog_applied.specs.Filed.{
   FollowFrom,

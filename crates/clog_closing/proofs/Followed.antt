@@ -20,9 +20,9 @@ use Rattle.clog_crash.specs.Recovery.{NamesAny}
 use Rattle.clog_crash.proofs.OneMore.{bytes_of}
 use Rattle.clog_crash.proofs.flush.NewFile.{one_place}
 use Rattle.clog_folder.specs.Segments.{IsTooLong}
-use Rattle.clog_store.specs.Filing.{AreRecoveryPuts}
-use Rattle.clog_store.specs.Named.{IsLateTable, id_limit}
-use Rattle.clog_store.specs.Opened.{CanBeOpened, HasRoomFor}
+use Rattle.clog_segments.specs.Filing.{AreRecoveryPuts}
+use Rattle.clog_segments.specs.Named.{IsLateTable, id_limit}
+use Rattle.clog_segments.specs.Opened.{CanBeOpened, HasRoomFor}
 use Rattle.clog_applied.specs.Appended.{appended, entries_in}
 use Rattle.clog_applied.specs.Asked.{capacity_of}
 use Rattle.clog_applied.specs.Closed.{ClosedRun}

@@ -33,7 +33,7 @@ use Rattle.clog_base.specs.declared.position.Position.{Position}
 use Rattle.clog_base.specs.Positions.{position_of}
 use Rattle.clog_base.proofs.Members.{first_or_further, further, here, nothing_there}
 use Rattle.path_core.specs.Keeper.{IsFiledIn, PutFile, upper_from}
-use Rattle.clog_store.specs.OnDisk.{file_on}
+use Rattle.clog_segments.specs.OnDisk.{file_on}
 use Rattle.clog_applied.specs.Filed.{FollowFrom, files_of, first_of, is_of}
 use Rattle.clog_applied.proofs.Lists.{kept_one, left_one}
 use Rattle.clog_layout.proofs.Pairs.{pairs_cons, pairs_none}

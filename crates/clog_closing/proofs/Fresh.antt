@@ -5,8 +5,8 @@ use base.Stored.{Gv}
 use Rattle.clog_disk.specs.declared.change.Change.{Change}
 use Rattle.clog_disk.specs.Files.{Files}
 use Rattle.path_core.specs.Keeper.{Holding, IsFresh}
-use Rattle.clog_store.specs.StoreFolder.{no_deeds}
-use Rattle.clog_store.specs.StoreState.{StoreState, deeds_by, holding_of, store_over}
+use Rattle.clog_segments.specs.StoreFolder.{no_deeds}
+use Rattle.clog_segments.specs.StoreState.{StoreState, deeds_by, holding_of, store_over}
 use Rattle.clog_closing.specs.Drained.{HasNoDeeds}
 
 module _ {D : Type 0} (files : D → Option Files) (changes : D → Option (List Change))

@@ -17,8 +17,8 @@ use Rattle.path_core.specs.Keeper.{
 }
 use Rattle.clog_memtable.specs.declared.flushing.Memtable.{Memtable}
 use Rattle.clog_memtable.specs.Flushing.{HasPutFiles}
-use Rattle.clog_store.specs.StoreState.{StoreState}
-use Rattle.clog_store.proofs.Lived.{lives_further}
+use Rattle.clog_segments.specs.StoreState.{StoreState}
+use Rattle.clog_segments.proofs.Lived.{lives_further}
 use Rattle.clog_closing.specs.Drained.{EndsAs, HasGoneOn, KeepsLog, held_in}
 
 -- ---- the log stays

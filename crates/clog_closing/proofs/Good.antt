@@ -54,7 +54,7 @@ use Rattle.path_core.proofs.lists.Heads.{ahead, behind}
 use Rattle.clog_memtable.specs.declared.flushing.Memtable.{Memtable}
 use Rattle.clog_memtable.specs.Flushing.{FlushesAll, HasPutFiles, MayFlush, file_of, files_of}
 use Rattle.clog_memtable.proofs.Flushed.{same_cells, upper_behind, upper_stays}
-use Rattle.clog_store.proofs.FolderReads.{one_or_none}
+use Rattle.clog_segments.proofs.FolderReads.{one_or_none}
 use Rattle.clog_closing.specs.Beside.{HasGoodDeeds, HoldsNote}
 use Rattle.clog_closing.specs.Drained.{Drains, HasNoDeeds}
 use Rattle.clog_closing.specs.Sequence.{AreInSequence}

@@ -12,12 +12,12 @@ use Rattle.clog_crash.specs.Log.{Write}
 use Rattle.clog_crash.specs.Runs.{placed_log}
 use Rattle.clog_crash.specs.Sections.{IsStored}
 use Rattle.path_core.specs.declared.note.EntryNote.{EntryNote}
-use Rattle.clog_store.specs.Grows.{IsGrown, segments_with}
-use Rattle.clog_store.specs.Life.{State}
-use Rattle.clog_store.specs.NoteLog.{IsNoteLog, NoteState}
-use Rattle.clog_store.specs.Notes.{places_of}
-use Rattle.clog_store.specs.StoreFolder.{IsSound}
-use Rattle.clog_store.specs.StoreState.{HasGrown}
+use Rattle.clog_segments.specs.Grows.{IsGrown, segments_with}
+use Rattle.clog_segments.specs.Life.{State}
+use Rattle.clog_segments.specs.NoteLog.{IsNoteLog, NoteState}
+use Rattle.clog_segments.specs.Notes.{places_of}
+use Rattle.clog_segments.specs.StoreFolder.{IsSound}
+use Rattle.clog_segments.specs.StoreState.{HasGrown}
 use Rattle.clog_store.proofs.NoteGrows.{rises_with}
 use Rattle.clog_closing.specs.Logs.{AreStoredInOrder}
 

@@ -54,8 +54,8 @@ use Rattle.clog_crash.proofs.rest.Sectioned.{is_file}
 use Rattle.path_core.specs.declared.note.EntryNote.{EntryNote}
 use Rattle.path_core.specs.Keys.{offset_of}
 use Rattle.path_core.proofs.lists.Heads.{ahead, behind}
-use Rattle.clog_store.specs.Grows.{IsGrown, segments_with}
-use Rattle.clog_store.specs.Notes.{payload_in, place_of, places_of}
+use Rattle.clog_segments.specs.Grows.{IsGrown, segments_with}
+use Rattle.clog_segments.specs.Notes.{payload_in, place_of, places_of}
 use Rattle.clog_applied.specs.Appended.{IsAppended, appended, entries_in, segments_of}
 use Rattle.clog_applied.specs.History.{LoggedLine, entry_of}
 use Rattle.clog_applied.proofs.Lists.{from_filter, in_filter}

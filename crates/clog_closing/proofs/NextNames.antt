@@ -15,10 +15,17 @@ use Rattle.clog_table.specs.declared.table_file.TableFile.{TableFile}
 use Rattle.clog_crash.specs.Folder.{IsBase}
 use Rattle.path_core.specs.Keeper.{PutFile}
 use Rattle.clog_crash.specs.Log.{Write}
-use Rattle.clog_store.specs.OnDisk.{file_on}
-use Rattle.clog_store.specs.StoreFolder.{ArePlacedAt, Deeds, HoldsStore, IsTaken, PlacedFile, StoreLog}
-use Rattle.clog_store.proofs.Ids.{one_base, same_base}
-use Rattle.clog_store.proofs.NextNames.{held, taken}
+use Rattle.clog_segments.specs.OnDisk.{file_on}
+use Rattle.clog_segments.specs.StoreFolder.{
+  ArePlacedAt,
+  Deeds,
+  HoldsStore,
+  IsTaken,
+  PlacedFile,
+  StoreLog,
+}
+use Rattle.clog_segments.proofs.Ids.{one_base, same_base}
+use Rattle.clog_segments.proofs.NextNames.{held, taken}
 use Rattle.clog_applied.specs.Filed.{files_of, is_of}
 use Rattle.clog_applied.proofs.Lists.{kept_one, left_one}
 use Rattle.clog_closing.specs.NextNames.{HaveNextNames, HoldsSequence}

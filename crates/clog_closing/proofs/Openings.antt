@@ -21,10 +21,10 @@ use Rattle.clog_base.proofs.Members.{from_map}
 use Rattle.clog_disk.specs.declared.change.Change.{Change}
 use Rattle.clog_disk.specs.Files.{Files}
 use Rattle.clog_crash.specs.Folder.{HasSegmentOf, IsHeld}
-use Rattle.clog_store.specs.Coming.{removal}
-use Rattle.clog_store.specs.Filing.{IsRecoveryPut, publish}
-use Rattle.clog_store.specs.Named.{AreSegmentIds, id_of}
-use Rattle.clog_store.specs.Opened.{IsOpened, RecoversAll}
+use Rattle.clog_segments.specs.Coming.{removal}
+use Rattle.clog_segments.specs.Filing.{IsRecoveryPut, publish}
+use Rattle.clog_segments.specs.Named.{AreSegmentIds, id_of}
+use Rattle.clog_segments.specs.Opened.{IsOpened, RecoversAll}
 use Rattle.clog_applied.specs.Opening.{IsOpening, IsRecoveryChange, SaysRecovered}
 
 says : (first : Files) (name bytes : List ℕ) → IsRecoveryPut first name bytes

@@ -12,8 +12,8 @@ use Rattle.clog_words.specs.declared.request.ApplyOptions.{ApplyOptions}
 use Rattle.path_core.specs.declared.note.EntryNote.{EntryNote}
 use Rattle.path_core.specs.History.{IsHistory}
 use Rattle.path_core.specs.Keeper.{Holding, PutFile}
-use Rattle.clog_store.specs.NoteLog.{EndsThere}
-use Rattle.clog_store.specs.OnDisk.{file_on}
+use Rattle.clog_segments.specs.NoteLog.{EndsThere}
+use Rattle.clog_segments.specs.OnDisk.{file_on}
 use Rattle.clog_store.proofs.FolderEnds.{after_at_most, after_first}
 use Rattle.clog_applied.specs.Appended.{appended}
 use Rattle.clog_applied.specs.Asked.{capacity_of}

@@ -11,10 +11,10 @@ use Rattle.clog_table.specs.declared.table_file.TableFile.{TableFile}
 use Rattle.clog_crash.specs.Folder.{HoldsName, IsBase, IsHeld}
 use Rattle.clog_crash.proofs.OneMore.{bytes_of}
 use Rattle.clog_folder.proofs.Listed.{held_of}
-use Rattle.clog_store.specs.Filing.{AreRecoveryPuts}
-use Rattle.clog_store.specs.Named.{IsLateTable, sequence_limit}
-use Rattle.clog_store.specs.Opened.{HasRoomFor}
-use Rattle.clog_store.proofs.FolderReads.{absent_or_held}
+use Rattle.clog_segments.specs.Filing.{AreRecoveryPuts}
+use Rattle.clog_segments.specs.Named.{IsLateTable, sequence_limit}
+use Rattle.clog_segments.specs.Opened.{HasRoomFor}
+use Rattle.clog_segments.proofs.FolderReads.{absent_or_held}
 use Rattle.clog_applied.specs.Filed.{is_of}
 use Rattle.clog_applied.proofs.Lists.{kept_one, left_one}
 use Rattle.clog_closing.specs.NextNames.{HaveNextNames, HoldsSequence}

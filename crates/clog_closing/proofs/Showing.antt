@@ -29,8 +29,8 @@ use Rattle.clog_crash.specs.Runs.{Placed, placed, placed_log, placed_of}
 use Rattle.clog_crash.specs.Showing.{RestoresFirst}
 use Rattle.clog_crash.proofs.changes.Covering.{exactly, merge_then}
 use Rattle.path_core.specs.declared.note.EntryNote.{EntryNote}
-use Rattle.clog_store.specs.Grows.{segments_with}
-use Rattle.clog_store.specs.Notes.{payload_in, places_of}
+use Rattle.clog_segments.specs.Grows.{segments_with}
+use Rattle.clog_segments.specs.Notes.{payload_in, places_of}
 use Rattle.clog_layout.specs.Logged.{AreEntriesOf}
 use Rattle.clog_closing.specs.Written.{RestoresLines}
 

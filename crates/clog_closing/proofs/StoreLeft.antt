@@ -55,8 +55,15 @@ use Rattle.clog_crash.specs.Log.{Write}
 use Rattle.clog_crash.specs.Sections.{segment_bytes}
 use Rattle.clog_crash.proofs.OneMore.{bytes_of}
 use Rattle.clog_crash.proofs.changes.Names.{is_named, not_segment, one_id}
-use Rattle.clog_store.specs.StoreFolder.{Deeds, IsRow, IsSegmentRow, PlacedFile, StoreLog, name_of}
-use Rattle.clog_store.proofs.FolderReads.{absent_or_held, one_or_none}
+use Rattle.clog_segments.specs.StoreFolder.{
+  Deeds,
+  IsRow,
+  IsSegmentRow,
+  PlacedFile,
+  StoreLog,
+  name_of,
+}
+use Rattle.clog_segments.proofs.FolderReads.{absent_or_held, one_or_none}
 use Rattle.clog_applied.specs.Appended.{appended}
 use Rattle.clog_applied.specs.Closed.{IsArchivedAs, StaysAs, StaysOrWent, WentAs}
 use Rattle.clog_applied.specs.Filed.{BringsNoOther, KeepsOthers}

@@ -11,9 +11,9 @@ use Rattle.clog_disk.specs.Files.{Files}
 use Rattle.clog_disk.proofs.Named.{same_or_other}
 use Rattle.clog_crash.specs.Log.{Write}
 use Rattle.clog_crash.proofs.OneMore.{bytes_of}
-use Rattle.clog_store.specs.StoreFailed.{HoldsButOne, IsFailing}
-use Rattle.clog_store.specs.StoreFolder.{Deeds, HoldsStore, IsRow, PlacedFile, StoreLog, name_of}
-use Rattle.clog_store.proofs.FolderReads.{one_or_none}
+use Rattle.clog_segments.specs.StoreFailed.{HoldsButOne, IsFailing}
+use Rattle.clog_segments.specs.StoreFolder.{Deeds, HoldsStore, IsRow, PlacedFile, StoreLog, name_of}
+use Rattle.clog_segments.proofs.FolderReads.{one_or_none}
 use Rattle.clog_applied.specs.Filed.{BringsNoOther, IsNewName}
 use Rattle.clog_closing.specs.Logs.{id_of}
 use Rattle.clog_closing.specs.Stores.{segments_in}

@@ -44,9 +44,9 @@ use Rattle.clog_crash.specs.Log.{Write}
 use Rattle.clog_crash.proofs.counts.Growing.{appends_of-append, grown-append}
 use Rattle.path_core.specs.declared.note.EntryNote.{EntryNote}
 use Rattle.path_core.specs.Keeper.{PutFile}
-use Rattle.clog_store.specs.OnDisk.{file_on}
-use Rattle.clog_store.specs.StoreFolder.{Deeds, StoreLog}
-use Rattle.clog_store.specs.StoreOrder.{ComesBehind, GetsArchiveName, GoesBehind}
+use Rattle.clog_segments.specs.OnDisk.{file_on}
+use Rattle.clog_segments.specs.StoreFolder.{Deeds, StoreLog}
+use Rattle.clog_segments.specs.StoreOrder.{ComesBehind, GetsArchiveName, GoesBehind}
 use Rattle.clog_applied.specs.Appended.{appended}
 use Rattle.clog_applied.specs.Early.{
   AreRunChanges,

@@ -40,9 +40,9 @@ use Rattle.clog_crash.specs.Log.{Write}
 use Rattle.clog_crash.proofs.changes.Names.{one_id}
 use Rattle.clog_crash.proofs.flush.NewFile.{one_place}
 use Rattle.path_core.specs.Keeper.{PutFile}
-use Rattle.clog_store.specs.OnDisk.{file_on}
-use Rattle.clog_store.specs.StoreFolder.{Deeds, PlacedFile, StoreLog, name_of}
-use Rattle.clog_store.specs.StoreOrder.{
+use Rattle.clog_segments.specs.OnDisk.{file_on}
+use Rattle.clog_segments.specs.StoreFolder.{Deeds, PlacedFile, StoreLog, name_of}
+use Rattle.clog_segments.specs.StoreOrder.{
   ArePutBy,
   ComesBehind,
   GetsArchiveName,

@@ -54,10 +54,10 @@ use Rattle.clog_crash.proofs.flush.NewFile.{one_place}
 use Rattle.path_core.specs.Keeper.{PutFile, upper_from}
 use Rattle.path_core.specs.Parts.{touches}
 use Rattle.path_core.proofs.lists.Heads.{ahead, behind}
-use Rattle.clog_store.specs.OnDisk.{file_on}
-use Rattle.clog_store.specs.StoreFolder.{Deeds, PlacedFile, StoreLog, name_of}
-use Rattle.clog_store.specs.StoreOrder.{IsFiledWhole}
-use Rattle.clog_store.proofs.FolderReads.{one_or_none}
+use Rattle.clog_segments.specs.OnDisk.{file_on}
+use Rattle.clog_segments.specs.StoreFolder.{Deeds, PlacedFile, StoreLog, name_of}
+use Rattle.clog_segments.specs.StoreOrder.{IsFiledWhole}
+use Rattle.clog_segments.proofs.FolderReads.{one_or_none}
 use Rattle.clog_applied.specs.Appended.{entries_in}
 use Rattle.clog_applied.specs.Closed.{IsPut}
 use Rattle.clog_applied.specs.Filed.{StandsBefore, files_of, is_of as is_of_table}

@@ -18,8 +18,8 @@ use Rattle.path_core.specs.declared.note.EntryNote.{EntryNote}
 use Rattle.path_core.specs.History.{IsHistory}
 use Rattle.path_core.specs.Keeper.{Holding, IsLoggedCell, PutFile}
 use Rattle.path_core.specs.Whole.{IsWhole}
-use Rattle.clog_store.specs.Notes.{payload_in}
-use Rattle.clog_store.specs.OnDisk.{file_on}
+use Rattle.clog_segments.specs.Notes.{payload_in}
+use Rattle.clog_segments.specs.OnDisk.{file_on}
 use Rattle.clog_applied.specs.Filed.{IsCellWithin, IsTrueFor}
 use Rattle.clog_applied.specs.History.{LoggedLine, logged_at}
 use Rattle.clog_layout.specs.Logged.{AreNotesOf, IsNoteOf}

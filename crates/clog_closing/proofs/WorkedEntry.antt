@@ -37,7 +37,7 @@ use Rattle.path_core.specs.Droppable.{is_of}
 use Rattle.path_core.specs.Keeper.{Holding, IsLoggedCell, PutFile}
 use Rattle.path_core.specs.Parts.{touches}
 use Rattle.path_core.specs.Whole.{IsWhole, Updates}
-use Rattle.clog_store.specs.Notes.{note_at}
+use Rattle.clog_segments.specs.Notes.{note_at}
 use Rattle.clog_applied.proofs.rows.Empty.{all_of_one}
 
 -- ---- its entry

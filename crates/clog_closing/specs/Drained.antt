@@ -6,8 +6,8 @@ use Rattle.path_core.specs.declared.keeper.KeeperFault.{KeeperFault}
 use Rattle.path_core.specs.Keeper.{Holding, PutFile, TellsCounts, is_stopped}
 use Rattle.clog_memtable.specs.declared.flushing.Memtable.{Memtable}
 use Rattle.clog_memtable.specs.Flushing.{files_of}
-use Rattle.clog_store.specs.Life.{Lives, LivesOn, State}
-use Rattle.clog_store.specs.StoreState.{StoreState, holding_of}
+use Rattle.clog_segments.specs.Life.{Lives, LivesOn, State}
+use Rattle.clog_segments.specs.StoreState.{StoreState, holding_of}
 use Rattle.clog_closing.specs.Beside.{HasFinished}
 
 -- A call, or several, of a keeper that had not stopped ends so: it has stopped where that is

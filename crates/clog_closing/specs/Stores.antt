@@ -11,11 +11,11 @@ use Rattle.clog_crash.specs.Runs.{placed_log}
 use Rattle.path_core.specs.declared.note.EntryNote.{EntryNote}
 use Rattle.path_core.specs.History.{IsHistory}
 use Rattle.path_core.specs.Keeper.{PutFile}
-use Rattle.clog_store.specs.Grows.{IsGrown, segments_with}
-use Rattle.clog_store.specs.Notes.{places_of}
-use Rattle.clog_store.specs.OnDisk.{file_on}
-use Rattle.clog_store.specs.StoreFolder.{Deeds, HoldsStore, StoreLog}
-use Rattle.clog_store.specs.StoreOrder.{AreOrdered, IsFiledWhole}
+use Rattle.clog_segments.specs.Grows.{IsGrown, segments_with}
+use Rattle.clog_segments.specs.Notes.{places_of}
+use Rattle.clog_segments.specs.OnDisk.{file_on}
+use Rattle.clog_segments.specs.StoreFolder.{Deeds, HoldsStore, StoreLog}
+use Rattle.clog_segments.specs.StoreOrder.{AreOrdered, IsFiledWhole}
 use Rattle.clog_applied.specs.History.{LoggedLine}
 use Rattle.clog_layout.specs.Logged.{AreNotesOf}
 use Rattle.clog_closing.specs.Logs.{AreStoredInOrder, written_ids}

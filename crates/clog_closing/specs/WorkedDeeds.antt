@@ -5,7 +5,7 @@ use base.Stored.{Gv}
 use Rattle.clog_base.specs.declared.sizes.Sizes.{Sizes}
 use Rattle.clog_crash.specs.Worked.{logged}
 use Rattle.path_core.specs.Keeper.{Holding, PutFile}
-use Rattle.clog_store.specs.Notes.{note_at}
+use Rattle.clog_segments.specs.Notes.{note_at}
 
 -- What the rows leave open: its sizes, but that its segments have 4096 bytes; its disk; and whether
 -- segments get an archive name.

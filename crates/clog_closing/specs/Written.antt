@@ -36,7 +36,7 @@ use Rattle.clog_crash.specs.Log.{Write, entries_in}
 use Rattle.clog_crash.specs.Readings.{Reading, RestoresIn}
 use Rattle.clog_crash.specs.Restore.{IsUndamaged}
 use Rattle.clog_crash.specs.Sections.{segment_bytes}
-use Rattle.clog_store.specs.Grows.{AreAppends, IsAppend}
+use Rattle.clog_segments.specs.Grows.{AreAppends, IsAppend}
 use Rattle.clog_applied.specs.Appended.{IsAppended}
 use Rattle.clog_applied.specs.Closed.{IsAnyFile}
 use Rattle.clog_applied.specs.Early.{AreInOrder, AreRunChanges, ComeLast}

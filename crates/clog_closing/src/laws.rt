@@ -42,13 +42,13 @@ ghost use Rattle.path_core.specs.Keeper.{
   PutFile,
 };
 ghost use Rattle.path_core.specs.Whole.{IsWhole};
-ghost use Rattle.clog_store.specs.Grows.{IsGrown, segments_with};
-ghost use Rattle.clog_store.specs.Notes.{places_of};
-ghost use Rattle.clog_store.specs.OnDisk.{file_on};
-ghost use Rattle.clog_store.specs.Filing.{AreRecoveryPuts};
-ghost use Rattle.clog_store.specs.Named.{id_limit};
-ghost use Rattle.clog_store.specs.Opened.{CanBeOpened, HasRoomFor, IsOpened, RecoversAll};
-ghost use Rattle.clog_store.specs.StoreFolder.{Deeds, StoreLog};
+ghost use Rattle.clog_segments.specs.Grows.{IsGrown, segments_with};
+ghost use Rattle.clog_segments.specs.Notes.{places_of};
+ghost use Rattle.clog_segments.specs.OnDisk.{file_on};
+ghost use Rattle.clog_segments.specs.Filing.{AreRecoveryPuts};
+ghost use Rattle.clog_segments.specs.Named.{id_limit};
+ghost use Rattle.clog_segments.specs.Opened.{CanBeOpened, HasRoomFor, IsOpened, RecoversAll};
+ghost use Rattle.clog_segments.specs.StoreFolder.{Deeds, StoreLog};
 ghost use Rattle.clog_applied.specs.Appended.{IsAppended, appended, entries_in};
 ghost use Rattle.clog_applied.specs.Asked.{capacity_of};
 ghost use Rattle.clog_applied.specs.Closed.{ClosedRun, IsStoreLeft};

@@ -32,7 +32,7 @@ use Rattle.clog_folder.specs.Folder.{FolderRefused}
 use Rattle.clog_mutation.specs.declared.mutation.Mutation.{Mutation}
 use Rattle.clog_words.specs.declared.request.ApplyOptions.{ApplyOptions}
 use Rattle.clog_applied.specs.Asked.{capacity_of}
-use Rattle.clog_store.specs.Opened.{LeftAlone, OpenRefused}
+use Rattle.clog_segments.specs.Opened.{LeftAlone, OpenRefused}
 use Rattle.clog_engine.specs.declared.status.Status.{Status}
 use Rattle.clog_engine.specs.declared.status.Status.TheVariants.{
   Ok,

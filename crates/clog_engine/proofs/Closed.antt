@@ -32,7 +32,7 @@ use Rattle.clog_crash.specs.Readings.{RestoresIn}
 use Rattle.clog_crash.specs.Restore.{IsRestored}
 use Rattle.clog_crash.proofs.changes.BothWays.{rows_are}
 use Rattle.clog_crash.proofs.changes.Covering.{merge_of_more}
-use Rattle.clog_store.specs.Opened.{IsOpened}
+use Rattle.clog_segments.specs.Opened.{IsOpened}
 use Rattle.clog_applied.specs.Applied.{MergeIsKept}
 use Rattle.clog_applied.specs.Asked.{IsBatch}
 use Rattle.clog_applied.specs.Closed.{ClosedRun, IsClosedPath, IsStoreLeft}

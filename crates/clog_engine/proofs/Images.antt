@@ -14,8 +14,8 @@ use Rattle.clog_crash.specs.Covering.{Either}
 use Rattle.clog_crash.specs.Log.{NoChances}
 use Rattle.clog_crash.specs.Readings.{Reading, RestoresIn}
 use Rattle.clog_crash.proofs.changes.Covering.{either_same, exactly, merge_then}
-use Rattle.clog_store.specs.Opened.{KeepsFolder}
-use Rattle.clog_store.proofs.OpenedWhole.{image_keeps, lasts_on}
+use Rattle.clog_segments.specs.Opened.{KeepsFolder}
+use Rattle.clog_segments.proofs.OpenedWhole.{image_keeps, lasts_on}
 use Rattle.clog_closing.specs.Written.{RestoresLines}
 use Rattle.clog_writers.specs.Left.{LeavesShares, said_by}
 use Rattle.clog_engine.specs.Logged.{AddsFirst}

@@ -31,7 +31,7 @@ use Rattle.clog_words.specs.declared.request.ApplyOptions.{ApplyOptions}
 use Rattle.clog_applied.specs.Filed.{BringsNoOther, KeepsOthers}
 use Rattle.clog_applied.specs.History.{LoggedLine}
 use Rattle.clog_closing.specs.Logs.{id_of}
-use Rattle.clog_store.specs.Opened.{RecoversAll}
+use Rattle.clog_segments.specs.Opened.{RecoversAll}
 use Rattle.clog_writers.specs.Left.{SaysShares}
 use Rattle.clog_engine.specs.Logged.{
   AddsFirst,

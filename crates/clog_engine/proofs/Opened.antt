@@ -37,7 +37,7 @@ use Rattle.clog_folder.specs.Passing.{IsUntouched as IsDiskUntouched}
 use Rattle.clog_folder.proofs.Passing.{both, no_call}
 use Rattle.clog_applied.specs.Filed.{BringsNoOther, IsNewName, KeepsOthers}
 use Rattle.clog_applied.specs.History.{LoggedLine}
-use Rattle.clog_store.specs.Opened.{
+use Rattle.clog_segments.specs.Opened.{
   IsOpened,
   IsRecovered,
   KeepsFolder,
@@ -45,8 +45,8 @@ use Rattle.clog_store.specs.Opened.{
   RecoversAll,
   RecoversFirst,
 }
-use Rattle.clog_store.specs.StoreFailed.{AllStay}
-use Rattle.clog_store.proofs.OpenedWhole.{keeps_same, lasts_on}
+use Rattle.clog_segments.specs.StoreFailed.{AllStay}
+use Rattle.clog_segments.proofs.OpenedWhole.{keeps_same, lasts_on}
 use Rattle.clog_closing.specs.Logs.{id_of}
 use Rattle.clog_closing.proofs.Openings.{recovery_changes}
 use Rattle.clog_closing.specs.Written.{BringsOnly, HasBrought}

@@ -36,7 +36,7 @@ use Rattle.clog_mutation.specs.declared.mutation.Mutation.{Mutation}
 use Rattle.clog_mutation.specs.Payload.{cells_of}
 use Rattle.clog_words.specs.declared.request.ApplyOptions.{ApplyOptions}
 use Rattle.clog_crash.specs.Restore.{IsRestored}
-use Rattle.clog_store.specs.Opened.{IsOpened}
+use Rattle.clog_segments.specs.Opened.{IsOpened}
 use Rattle.clog_applied.specs.Filed.{KeepsOthers}
 use Rattle.clog_applied.specs.History.{LoggedLine}
 use Rattle.clog_applied.specs.Opening.{IsRecoveryChange}
@@ -53,7 +53,7 @@ use Rattle.clog_writers.specs.Logged.{IsLack}
 use Rattle.clog_writers.specs.Written.{
   HasShareCause,
   HasWrittenShares,
-  IsAskedBy,
+  AsksFor,
   line_receipt,
 }
 use Rattle.clog_engine.specs.declared.report.PendingReport.{PendingReport}
@@ -115,7 +115,7 @@ is_report true head text report before cells ms ordered of rows is = record {
 
 pub is_asked : (options : ApplyOptions) (sizes : Sizes) (archives : Bool)
     → AreSizesOf options sizes → archives ≡ options.archive
-    → IsAskedBy options sizes options.sync options.flush_at archives options.drain
+    → AsksFor options sizes options.sync options.flush_at archives options.drain
 is_asked options sizes archives sizes_are archive = record {
   writers = sym sizes_are.writers;
   sync = refl;

@@ -16,8 +16,8 @@ use Rattle.clog_spec.specs.Sizes.{file_limit}
 use Rattle.clog_words.specs.declared.request.ApplyOptions.{ApplyOptions}
 use Rattle.clog_crash.specs.Folder.{IsFirstBad}
 use Rattle.clog_folder.specs.Folder.{HasDamage, HasLongSegment}
-use Rattle.clog_store.specs.Named.{sequence_limit, id_limit}
-use Rattle.clog_store.specs.Opened.{HasGreatId, HasManyTables}
+use Rattle.clog_segments.specs.Named.{sequence_limit, id_limit}
+use Rattle.clog_segments.specs.Opened.{HasGreatId, HasManyTables}
 use Rattle.clog_applied.specs.Asked.{capacity_of}
 use Rattle.clog_engine.specs.declared.status.Status.{Status}
 use Rattle.clog_engine.specs.declared.status.Status.TheVariants.{

@@ -12,8 +12,8 @@ use Rattle.clog_disk.specs.Files.{Files}
 use Rattle.clog_crash.specs.Folder.{IsFirstBad}
 use Rattle.clog_crash.specs.Restore.{IsRestored}
 use Rattle.clog_folder.specs.Folder.{HasDamage, HasLongSegment}
-use Rattle.clog_store.specs.Named.{id_limit, sequence_limit}
-use Rattle.clog_store.specs.Opened.{HasGreatId, HasManyTables}
+use Rattle.clog_segments.specs.Named.{id_limit, sequence_limit}
+use Rattle.clog_segments.specs.Opened.{HasGreatId, HasManyTables}
 use Rattle.clog_engine.specs.declared.status.Status.{Status}
 use Rattle.clog_engine.specs.declared.status.Status.TheVariants.{
   DiskFault,

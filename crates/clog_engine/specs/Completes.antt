@@ -19,7 +19,7 @@ use Rattle.clog_io.specs.Causes.{Rose}
 use Rattle.clog_disk.specs.Files.{Files, Told}
 use Rattle.clog_crash.specs.Damage.{AreSegmentFiles}
 use Rattle.clog_folder.specs.Folder.{CanBeRead}
-use Rattle.clog_store.specs.Opened.{CanBeOpened}
+use Rattle.clog_segments.specs.Opened.{CanBeOpened}
 use Rattle.clog_words.specs.declared.built.Built.{Built}
 use Rattle.clog_words.specs.declared.built.Built.TheVariants.{Apply, Replay, Scan, Drill}
 use Rattle.clog_words.specs.Built.{AsksBuilt}

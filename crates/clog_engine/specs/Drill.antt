@@ -40,8 +40,8 @@ use Rattle.clog_mutation.specs.declared.mutation.Mutation.{Mutation}
 use Rattle.clog_text.specs.Made.{made_lines}
 use Rattle.clog_crash.specs.Folder.{IsFirstBad}
 use Rattle.clog_folder.specs.Folder.{HasDamage, HasLongSegment}
-use Rattle.clog_store.specs.Named.{sequence_limit, id_limit}
-use Rattle.clog_store.specs.Opened.{HasGreatId, HasManyTables}
+use Rattle.clog_segments.specs.Named.{sequence_limit, id_limit}
+use Rattle.clog_segments.specs.Opened.{HasGreatId, HasManyTables}
 use Rattle.sync_core.specs.declared.SyncCore.TheVariants.{Periodic}
 use Rattle.clog_words.specs.declared.request.ApplyOptions.{ApplyOptions}
 use Rattle.clog_applied.specs.Printed.{line}

@@ -43,8 +43,8 @@ use Rattle.clog_crash.specs.Log.{NoChances, Write}
 use Rattle.clog_crash.specs.Readings.{RestoresIn}
 use Rattle.clog_crash.specs.Restore.{IsUndamaged}
 use Rattle.clog_folder.specs.Folder.{HasDamage, HasLongSegment}
-use Rattle.clog_store.specs.Named.{sequence_limit, id_limit}
-use Rattle.clog_store.specs.Opened.{
+use Rattle.clog_segments.specs.Named.{sequence_limit, id_limit}
+use Rattle.clog_segments.specs.Opened.{
   HasGreatId,
   HasManyTables,
   IsOpened,

@@ -9,8 +9,6 @@ mod check;
 mod judging;
 mod marker;
 mod reader;
-#[cfg(test)]
-mod tests;
 mod writer;
 
 pub use cause::Cause;

@@ -13,8 +13,6 @@ mod listing;
 mod segment;
 mod segments;
 mod tables;
-#[cfg(test)]
-mod tests;
 mod whole;
 
 pub use fault::{OpenFault, fault_of};

@@ -10,6 +10,3 @@ pub use cleans::Cleans;
 pub use clog_base::{OutOfMemory, Position};
 pub use hull::Hull;
 pub use interval::Interval;
-
-#[cfg(test)]
-mod tests;

@@ -5,8 +5,6 @@
 mod calls;
 mod clock;
 mod gate;
-#[cfg(test)]
-mod gate_tests;
 mod hold_gate;
 mod memory_sink;
 mod memory_source;
@@ -23,6 +21,3 @@ pub use memory_source::MemSource;
 pub use reading::{ReadAllFault, read_all};
 pub use sink::{Sink, StdSink};
 pub use source::{Source, StdSource};
-
-#[cfg(test)]
-mod tests;

@@ -7,8 +7,6 @@ mod flushing;
 mod gathering;
 mod memtable;
 mod memtables;
-#[cfg(test)]
-mod tests;
 
 pub use flushing::Memtable;
 pub use gathering::gather;

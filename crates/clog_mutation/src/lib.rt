@@ -12,6 +12,3 @@ pub use laws::payload_laws;
 pub use mutation::{Mutation, Mutations, Update, Updates};
 pub use reading::decode;
 pub use writing::{encode, payload_size, put_mutation};
-
-#[cfg(test)]
-mod tests;

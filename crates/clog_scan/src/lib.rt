@@ -7,8 +7,6 @@ mod answer;
 mod laws;
 mod reading;
 mod step;
-#[cfg(test)]
-mod tests;
 
 pub use answer::{End, Found, Founds, Scan};
 pub use clog_entry::Cause;

@@ -28,9 +28,9 @@ use Rattle.clog_disk.specs.declared.change.Change.{Change}
 use Rattle.clog_disk.specs.declared.change.Change.TheVariants as change
 use Rattle.clog_crash.specs.Grown.{appends_of}
 use Rattle.path_core.specs.Keeper.{PutFile}
-use Rattle.clog_store.specs.Grows.{AreAppends}
-use Rattle.clog_store.specs.StoreFolder.{PlacedFile}
-use Rattle.clog_store.specs.StoreOrder.{ArePutBy, IsSpelled, publish_of, publishes_of}
+use Rattle.clog_segments.specs.Grows.{AreAppends}
+use Rattle.clog_segments.specs.StoreFolder.{PlacedFile}
+use Rattle.clog_segments.specs.StoreOrder.{ArePutBy, IsSpelled, publish_of, publishes_of}
 
 -- ---- cuts
 

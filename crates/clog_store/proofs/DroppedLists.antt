@@ -43,7 +43,7 @@ use Rattle.std.proofs.lemmas.List.Elements.{
 }
 use Rattle.clog_base.proofs.Members.{first_or_further, further, here, nothing_there}
 use Rattle.path_core.proofs.lists.Heads.{ahead, behind}
-use Rattle.clog_store.specs.StoreFolder.{Deeds, with_first_gone, with_gone, with_next}
+use Rattle.clog_segments.specs.StoreFolder.{Deeds, with_first_gone, with_gone, with_next}
 
 -- ---- ascending numbers
 

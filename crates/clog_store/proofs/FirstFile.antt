@@ -42,10 +42,10 @@ use Rattle.path_core.specs.declared.note.EntryNote.{EntryNote}
 use Rattle.path_core.specs.Droppable.{is_of}
 use Rattle.path_core.specs.Keeper.{PutFile}
 use Rattle.path_core.specs.Parts.{touches}
-use Rattle.clog_store.specs.Discards.{goes_by}
-use Rattle.clog_store.specs.Notes.{note_at}
-use Rattle.clog_store.specs.StoreFolder.{Deeds, IsPast, PlacedFile}
-use Rattle.clog_store.specs.StoreOrder.{
+use Rattle.clog_segments.specs.Discards.{goes_by}
+use Rattle.clog_segments.specs.Notes.{note_at}
+use Rattle.clog_segments.specs.StoreFolder.{Deeds, IsPast, PlacedFile}
+use Rattle.clog_segments.specs.StoreOrder.{
   AreOrdered,
   ArePutBy,
   GoesBehind,

@@ -11,11 +11,11 @@ use Rattle.clog_crash.specs.Folder.{IsHeld}
 use Rattle.clog_crash.specs.Log.{Write}
 use Rattle.clog_crash.proofs.OneMore.{bytes_of}
 use Rattle.clog_folder.proofs.Listed.{held_of}
-use Rattle.clog_store.specs.Named.{sequence_limit}
-use Rattle.clog_store.specs.Opened.{IsOpened, IsRecovered}
-use Rattle.clog_store.specs.StoreFolder.{HoldsStore, IsBegun, fresh_log, no_deeds}
+use Rattle.clog_segments.specs.Named.{sequence_limit}
+use Rattle.clog_segments.specs.Opened.{IsOpened, IsRecovered}
+use Rattle.clog_segments.specs.StoreFolder.{HoldsStore, IsBegun, fresh_log, no_deeds}
 use Rattle.clog_store.proofs.Cuts.{not_cut}
-use Rattle.clog_store.proofs.FolderReads.{absent_or_held}
+use Rattle.clog_segments.proofs.FolderReads.{absent_or_held}
 
 module _ (before now : Files) (base moment : ℕ) (opened : IsOpened before moment base now) where
   abbrev recovered : IsRecovered before base now

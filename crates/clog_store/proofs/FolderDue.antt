@@ -35,10 +35,10 @@ use Rattle.path_core.specs.Droppable.{is_of}
 use Rattle.path_core.specs.Keeper.{Holding, IsDue, MayPublish, PutFile}
 use Rattle.path_core.specs.Parts.{touches}
 use Rattle.clog_store.specs.Dropping.{AreDue}
-use Rattle.clog_store.specs.NoteLog.{HasLog, IsNoteLog, NoteState}
-use Rattle.clog_store.specs.OnDisk.{IsAllOnDisk, file_on}
-use Rattle.clog_store.specs.Publishes.{IsTrueHere}
-use Rattle.clog_store.specs.StoreFolder.{
+use Rattle.clog_segments.specs.NoteLog.{HasLog, IsNoteLog, NoteState}
+use Rattle.clog_segments.specs.OnDisk.{IsAllOnDisk, file_on}
+use Rattle.clog_segments.specs.Publishes.{IsTrueHere}
+use Rattle.clog_segments.specs.StoreFolder.{
   EndsWithin,
   HoldsStore,
   IsPast,
@@ -47,9 +47,9 @@ use Rattle.clog_store.specs.StoreFolder.{
   deeds_of,
   log_of,
 }
-use Rattle.clog_store.proofs.FolderReads.{all_on_disk}
+use Rattle.clog_segments.proofs.FolderReads.{all_on_disk}
 use Rattle.clog_store.proofs.NotePast.{past_of}
-use Rattle.clog_store.proofs.OnDisk.{due_is_covered, published_is_true}
+use Rattle.clog_segments.proofs.OnDisk.{due_is_covered, published_is_true}
 
 -- a place behind which the interval of a file ends is not beyond what lasts
 up_to_within : (id : ℕ) (old : List Section) (at end : Position) → EndsWithin id old end

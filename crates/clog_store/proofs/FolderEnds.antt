@@ -57,9 +57,9 @@ use Rattle.clog_crash.proofs.torn.Whole.{until_grows}
 use Rattle.path_core.specs.declared.note.EntryNote.{EntryNote}
 use Rattle.path_core.specs.Keeper.{Holding, IsDue}
 use Rattle.path_core.specs.Keys.{after, behind_marker, fits, first_offset, next_segment}
-use Rattle.clog_store.specs.NoteLog.{HasLog, IsHeld, IsNoteLog, NoteState, Reaches}
-use Rattle.clog_store.specs.Notes.{place_of}
-use Rattle.clog_store.specs.StoreFolder.{EndsWithin, IsSound}
+use Rattle.clog_segments.specs.NoteLog.{HasLog, IsHeld, IsNoteLog, NoteState, Reaches}
+use Rattle.clog_segments.specs.Notes.{place_of}
+use Rattle.clog_segments.specs.StoreFolder.{EndsWithin, IsSound}
 
 -- ---- how far it has gone
 

@@ -43,10 +43,10 @@ use Rattle.clog_crash.specs.Log.{Write}
 use Rattle.clog_crash.specs.Sections.{segment_bytes}
 use Rattle.clog_crash.proofs.changes.Names.{is_named, one_id}
 use Rattle.path_core.specs.declared.note.EntryNote.{EntryNote}
-use Rattle.clog_store.specs.Grows.{segments_with}
-use Rattle.clog_store.specs.NoteLog.{IsNotOf, LeavesOthers, NoteState}
-use Rattle.clog_store.specs.StoreFailed.{AllStay, HoldsButOne}
-use Rattle.clog_store.specs.StoreFolder.{
+use Rattle.clog_segments.specs.Grows.{segments_with}
+use Rattle.clog_segments.specs.NoteLog.{IsNotOf, LeavesOthers, NoteState}
+use Rattle.clog_segments.specs.StoreFailed.{AllStay, HoldsButOne}
+use Rattle.clog_segments.specs.StoreFolder.{
   Deeds,
   HoldsStore,
   IsRow,
@@ -54,12 +54,12 @@ use Rattle.clog_store.specs.StoreFolder.{
   StoreLog,
   log_of,
 }
-use Rattle.clog_store.specs.Torn.{StandsTorn}
-use Rattle.clog_store.proofs.AllGo.{archive_named}
-use Rattle.clog_store.proofs.FolderNames.{AreBelow, id_below, segment_absent}
-use Rattle.clog_store.proofs.FolderReads.{absent_or_held}
+use Rattle.clog_segments.specs.Torn.{StandsTorn}
+use Rattle.clog_segments.proofs.AllGo.{archive_named}
+use Rattle.clog_segments.proofs.FolderNames.{AreBelow, id_below, segment_absent}
+use Rattle.clog_segments.proofs.FolderReads.{absent_or_held}
 use Rattle.clog_store.proofs.FolderSyncs.{holds_notes_synced}
-use Rattle.clog_store.proofs.Torn.{stands_fewer}
+use Rattle.clog_segments.proofs.Torn.{stands_fewer}
 
 -- a store's folder is so
 pub but_none : (first f : Files) (log : StoreLog) (deeds : Deeds) → HoldsStore first log deeds f

@@ -48,14 +48,14 @@ use Rattle.clog_crash.specs.Sections.{segment_bytes}
 use Rattle.clog_crash.proofs.changes.Names.{is_named, not_segment, one_id}
 use Rattle.path_core.specs.declared.note.EntryNote.{EntryNote}
 use Rattle.path_core.proofs.lists.Heads.{ahead, behind}
-use Rattle.clog_store.specs.Discards.{
+use Rattle.clog_segments.specs.Discards.{
   AreDroppable,
   all_gone_at,
   first_gone_at,
   gone_at,
   named_at,
 }
-use Rattle.clog_store.specs.StoreFolder.{
+use Rattle.clog_segments.specs.StoreFolder.{
   Deeds,
   HoldsStore,
   IsArchiveRow,
@@ -69,9 +69,9 @@ use Rattle.clog_store.specs.StoreFolder.{
   with_gone,
   with_next,
 }
-use Rattle.clog_store.proofs.AllGo.{archive_named}
-use Rattle.clog_store.proofs.FolderReads.{absent_or_held}
-use Rattle.clog_store.proofs.FolderNames.{AreBelow, archive_apart, id_below}
+use Rattle.clog_segments.proofs.AllGo.{archive_named}
+use Rattle.clog_segments.proofs.FolderReads.{absent_or_held}
+use Rattle.clog_segments.proofs.FolderNames.{AreBelow, archive_apart, id_below}
 
 module _ (first f : Files) (log : StoreLog) (deeds : Deeds)
     (holds : HoldsStore first log deeds f) (low : AreBelow log) (fits : log.id < 2 ^ 63) (o : ℕ)

@@ -47,9 +47,9 @@ use Rattle.clog_crash.specs.Folder.{IsBase, IsHeld}
 use Rattle.clog_folder.proofs.Listed.{held_of, listed_of}
 use Rattle.path_core.specs.declared.note.EntryNote.{EntryNote}
 use Rattle.path_core.specs.Keeper.{PutFile, upper_from}
-use Rattle.clog_store.specs.Named.{HasSequence, OneHas, sequence_limit}
-use Rattle.clog_store.specs.OnDisk.{file_on}
-use Rattle.clog_store.specs.StoreFolder.{
+use Rattle.clog_segments.specs.Named.{HasSequence, OneHas, sequence_limit}
+use Rattle.clog_segments.specs.OnDisk.{file_on}
+use Rattle.clog_segments.specs.StoreFolder.{
   Deeds,
   GoesOn,
   HoldsStore,
@@ -66,9 +66,9 @@ use Rattle.clog_store.specs.StoreFolder.{
   with_file,
 }
 use Rattle.clog_store.proofs.Cuts.{cut_of, only_cut}
-use Rattle.clog_store.proofs.FolderReads.{absent_or_held, one_or_none}
-use Rattle.clog_store.proofs.FolderNames.{AreBelow, table_elsewhere}
-use Rattle.clog_store.proofs.NextNames.{next_taken}
+use Rattle.clog_segments.proofs.FolderReads.{absent_or_held, one_or_none}
+use Rattle.clog_segments.proofs.FolderNames.{AreBelow, table_elsewhere}
+use Rattle.clog_segments.proofs.NextNames.{next_taken}
 
 -- the name of a table's file is that of no other place
 one_file_name : (p q : PlacedFile) → IsTableName (name_of p) p.put.table p.sequence

@@ -42,10 +42,10 @@ use Rattle.clog_crash.specs.Log.{Write}
 use Rattle.clog_crash.specs.Sections.{segment_bytes}
 use Rattle.clog_crash.proofs.changes.Names.{not_segment, one_id}
 use Rattle.path_core.specs.declared.note.EntryNote.{EntryNote}
-use Rattle.clog_store.specs.Grows.{segments_with}
-use Rattle.clog_store.specs.Life.{past_with}
-use Rattle.clog_store.specs.NoteLog.{HasWritten, IsNotOf, LeavesOthers, NoteState}
-use Rattle.clog_store.specs.StoreFolder.{
+use Rattle.clog_segments.specs.Grows.{segments_with}
+use Rattle.clog_segments.specs.Life.{past_with}
+use Rattle.clog_segments.specs.NoteLog.{HasWritten, IsNotOf, LeavesOthers, NoteState}
+use Rattle.clog_segments.specs.StoreFolder.{
   Deeds,
   HoldsStore,
   IsPast,
@@ -55,7 +55,7 @@ use Rattle.clog_store.specs.StoreFolder.{
   log_of,
   name_of,
 }
-use Rattle.clog_store.proofs.FolderNames.{
+use Rattle.clog_segments.proofs.FolderNames.{
   AreBelow,
   archive_apart,
   has_bytes,

@@ -3,7 +3,7 @@ use Rattle.std.proofs.Common.{◌≡◌, ◌+◌, ◌++◌, ◌∙◌, ℕ, List
 use Rattle.std.specs.Prelude.{Result, Ok, Err, IfOk}
 use Rattle.clog_spec.specs.Segment.{header_bytes, marker_bytes}
 use Rattle.clog_spec.specs.Sizes.{header_size, marker_size}
-use Rattle.clog_store.specs.NoteSections.{IsFrontOf}
+use Rattle.clog_segments.specs.NoteSections.{IsFrontOf}
 
 pub first_is : (id long : ℕ) (front : List ℕ)
     → front ≡ header_bytes id ++ marker_bytes id header_size (header_size + marker_size + long)

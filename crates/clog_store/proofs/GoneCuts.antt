@@ -43,11 +43,11 @@ use Rattle.clog_spec.specs.Names.{archive_name_of, segment_name_of}
 use Rattle.clog_base.proofs.Members.{further, here, nothing_there, only_one}
 use Rattle.clog_disk.specs.declared.change.Change.{Change}
 use Rattle.clog_disk.specs.declared.change.Change.TheVariants as change
-use Rattle.clog_store.specs.declared.section_log.dropping.DropFault.{DropFault}
-use Rattle.clog_store.specs.Discarding.{DropsBy}
-use Rattle.clog_store.specs.Discards.{all_go_by, goes_by, names_by, next_by}
+use Rattle.clog_segments.specs.declared.section_log.dropping.DropFault.{DropFault}
+use Rattle.clog_segments.specs.Discarding.{DropsBy}
+use Rattle.clog_segments.specs.Discards.{all_go_by, goes_by, names_by, next_by}
 use Rattle.clog_store.specs.StoreDrops.{dropped_by, named_by}
-use Rattle.clog_store.specs.StoreFolder.{Deeds, with_first_gone}
+use Rattle.clog_segments.specs.StoreFolder.{Deeds, with_first_gone}
 use Rattle.clog_store.proofs.Cuts.{AreQuiet, IsQuiet, cut_of, only_cut}
 use Rattle.clog_store.proofs.DroppedLists.{first_archived, next_archived}
 

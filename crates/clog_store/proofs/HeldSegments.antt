@@ -54,8 +54,8 @@ use Rattle.clog_store.specs.Counting.{
   IsThere,
 }
 use Rattle.clog_store.specs.Dropping.{HasEntry, PicksIf}
-use Rattle.clog_store.specs.NoteLog.{NoteState}
-use Rattle.clog_store.specs.StoreState.{StoreState}
+use Rattle.clog_segments.specs.NoteLog.{NoteState}
+use Rattle.clog_segments.specs.StoreState.{StoreState}
 use Rattle.clog_store.proofs.DroppedLists.{in_front}
 use Rattle.clog_store.proofs.OrderSyncs.{GoesOnWith}
 

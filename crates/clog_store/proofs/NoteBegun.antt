@@ -2,8 +2,8 @@
 use Rattle.std.proofs.Common.{◌≡◌, ◌<◌, ◌^◌, inl, inr, [], refl, sym, subst, arith}
 use Rattle.clog_base.specs.declared.sizes.Sizes.{Sizes}
 use Rattle.clog_base.proofs.Members.{nothing_there}
-use Rattle.clog_store.specs.Life.{State}
-use Rattle.clog_store.specs.NoteLog.{IsNoteLog}
+use Rattle.clog_segments.specs.Life.{State}
+use Rattle.clog_segments.specs.NoteLog.{IsNoteLog}
 use Rattle.clog_store.specs.NoteSteps.{standing}
 use Rattle.clog_store.proofs.NoteFrom.{from_first}
 

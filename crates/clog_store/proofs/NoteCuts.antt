@@ -27,8 +27,8 @@ use Rattle.std.proofs.Common.{
 use Rattle.clog_base.specs.Positions.{ordinal_of, offset_of}
 use Rattle.path_core.specs.declared.note.EntryNote.{EntryNote}
 use Rattle.path_core.specs.Keeper.{FollowTo, Follows}
-use Rattle.clog_store.specs.NoteLog.{BeginsFrom, IsApart, end_behind}
-use Rattle.clog_store.specs.NoteSections.{AreOneSection, EndToEnd, first_start}
+use Rattle.clog_segments.specs.NoteLog.{BeginsFrom, IsApart, end_behind}
+use Rattle.clog_segments.specs.NoteSections.{AreOneSection, EndToEnd, first_start}
 use Rattle.clog_store.specs.NoteSteps.{StandAhead, StartsBehind}
 
 pub end_behind-append : (key : ℕ) (xs ys : List EntryNote)

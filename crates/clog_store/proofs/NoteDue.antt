@@ -40,11 +40,11 @@ use Rattle.clog_crash.specs.Runs.{Placed, placed, placed_of}
 use Rattle.path_core.specs.declared.note.EntryNote.{EntryNote}
 use Rattle.path_core.specs.Keeper.{Holding, IsDue}
 use Rattle.path_core.specs.Keys.{after}
-use Rattle.clog_store.specs.declared.written.StoreFault.{StoreFault}
-use Rattle.clog_store.specs.Life.{State}
-use Rattle.clog_store.specs.NoteLog.{BeginsFrom, HasLog, IsNoteLog, NoteState}
+use Rattle.clog_segments.specs.declared.written.StoreFault.{StoreFault}
+use Rattle.clog_segments.specs.Life.{State}
+use Rattle.clog_segments.specs.NoteLog.{BeginsFrom, HasLog, IsNoteLog, NoteState}
 use Rattle.clog_store.specs.NoteSteps.{Enters}
-use Rattle.clog_store.specs.Notes.{place_of}
+use Rattle.clog_segments.specs.Notes.{place_of}
 use Rattle.clog_store.specs.StoreDrops.{AreEarlier}
 use Rattle.clog_store.proofs.NoteLent.{starts_above, tile_starts}
 use Rattle.clog_store.proofs.NotePlaced.{placed_good}

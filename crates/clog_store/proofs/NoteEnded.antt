@@ -4,7 +4,7 @@ use Rattle.std.proofs.lemmas.List.Elements.{Contains-append_left, Contains-appen
 use Rattle.clog_base.proofs.Members.{further, here}
 use Rattle.path_core.specs.declared.note.EntryNote.{EntryNote}
 use Rattle.path_core.specs.Keeper.{FollowTo, Tile}
-use Rattle.clog_store.specs.NoteLog.{EndsThere}
+use Rattle.clog_segments.specs.NoteLog.{EndsThere}
 
 -- notes that follow one another up to a key end there
 ends_there : (upto : ℕ) (n : EntryNote) (ns : List EntryNote) → FollowTo upto n.end.0 ns

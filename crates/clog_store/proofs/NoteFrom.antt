@@ -26,9 +26,9 @@ use Rattle.clog_base.proofs.Members.{only_one}
 use Rattle.clog_disk.specs.Files.{Files}
 use Rattle.clog_scan.specs.Cut.{Section}
 use Rattle.clog_crash.specs.Log.{Write}
-use Rattle.clog_store.specs.Grows.{segments_with}
-use Rattle.clog_store.specs.Life.{State}
-use Rattle.clog_store.specs.NoteLog.{IsFrom, LeavesOthers}
+use Rattle.clog_segments.specs.Grows.{segments_with}
+use Rattle.clog_segments.specs.Life.{State}
+use Rattle.clog_segments.specs.NoteLog.{IsFrom, LeavesOthers}
 
 -- at the beginning
 pub from_first : (id : ℕ) (sections : List Section) (w : Write)

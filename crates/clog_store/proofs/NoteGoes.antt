@@ -22,13 +22,13 @@ use Rattle.clog_disk.specs.Images.{IsImage, IsLater}
 use Rattle.clog_disk.proofs.Moments.{later_still}
 use Rattle.clog_scan.specs.Cut.{Section}
 use Rattle.clog_crash.specs.Readings.{Reading}
-use Rattle.clog_store.specs.declared.written.StoreFault.{StoreFault}
-use Rattle.clog_store.specs.declared.written.StoreFault.TheVariants.{Stopped, OutOfMemory}
-use Rattle.clog_store.specs.Life.{Lives, LivesOn, State}
+use Rattle.clog_segments.specs.declared.written.StoreFault.{StoreFault}
+use Rattle.clog_segments.specs.declared.written.StoreFault.TheVariants.{Stopped, OutOfMemory}
+use Rattle.clog_segments.specs.Life.{Lives, LivesOn, State}
 use Rattle.clog_store.specs.NoteSteps.{GoesOn}
-use Rattle.clog_store.specs.Stepped.{HasLogCause, Keeps, Settles}
-use Rattle.clog_store.proofs.Lived.{lives_further, lives_still}
-use Rattle.clog_store.proofs.NamesKept.{names_rolled, names_still, names_then}
+use Rattle.clog_segments.specs.Stepped.{HasLogCause, Keeps, Settles}
+use Rattle.clog_segments.proofs.Lived.{lives_further, lives_still}
+use Rattle.clog_segments.proofs.NamesKept.{names_rolled, names_still, names_then}
 
 module _ {D : Type 0} (files : D → Option Files) (moment : D → ℕ)
     (since : D → ℕ → Files → Type 0) (leaves : D → List ℕ → Option (List ℕ) → Type 0)

@@ -57,9 +57,9 @@ use Rattle.clog_crash.proofs.counts.Growing.{
   grown_here,
 }
 use Rattle.clog_disk.specs.Changes.{Adds}
-use Rattle.clog_store.specs.declared.written.StoreFault.{StoreFault}
-use Rattle.clog_store.specs.declared.written.StoreFault.TheVariants.{Stopped, OutOfMemory}
-use Rattle.clog_store.specs.Grows.{
+use Rattle.clog_segments.specs.declared.written.StoreFault.{StoreFault}
+use Rattle.clog_segments.specs.declared.written.StoreFault.TheVariants.{Stopped, OutOfMemory}
+use Rattle.clog_segments.specs.Grows.{
   AreAppends,
   AreFilled,
   Grows,
@@ -69,8 +69,8 @@ use Rattle.clog_store.specs.Grows.{
   Writes,
   segments_with,
 }
-use Rattle.clog_store.specs.Life.{State, past_with}
-use Rattle.clog_store.specs.Stepped.{Keeps}
+use Rattle.clog_segments.specs.Life.{State, past_with}
+use Rattle.clog_segments.specs.Stepped.{Keeps}
 
 -- bytes that bring a section stand behind those of the others
 pub spells : (id k : ℕ) (ss : List Section) (x : Section) (bytes : List ℕ)

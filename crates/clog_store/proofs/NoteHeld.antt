@@ -38,18 +38,18 @@ use Rattle.clog_crash.specs.Runs.{Placed, placed_log}
 use Rattle.clog_crash.specs.Sections.{next_section}
 use Rattle.clog_crash.proofs.life.RunLog.{log_rolled}
 use Rattle.path_core.specs.declared.note.EntryNote.{EntryNote}
-use Rattle.clog_store.specs.declared.written.StoreFault.{StoreFault}
-use Rattle.clog_store.specs.declared.written.StoreFault.TheVariants.{Stopped, OutOfMemory}
-use Rattle.clog_store.specs.Life.{State, past_with}
-use Rattle.clog_store.specs.NoteLog.{BeginsFrom, IsApart, IsHeld, end_behind}
-use Rattle.clog_store.specs.NoteSections.{
+use Rattle.clog_segments.specs.declared.written.StoreFault.{StoreFault}
+use Rattle.clog_segments.specs.declared.written.StoreFault.TheVariants.{Stopped, OutOfMemory}
+use Rattle.clog_segments.specs.Life.{State, past_with}
+use Rattle.clog_segments.specs.NoteLog.{BeginsFrom, IsApart, IsHeld, end_behind}
+use Rattle.clog_segments.specs.NoteSections.{
   AreOneSection,
   MayBeNext,
   bytes_in,
   first_start,
   payloads_in,
 }
-use Rattle.clog_store.specs.Notes.{place_of, places_of}
+use Rattle.clog_segments.specs.Notes.{place_of, places_of}
 use Rattle.clog_store.specs.NoteSteps.{
   Enters,
   StartsBehind,
@@ -57,9 +57,9 @@ use Rattle.clog_store.specs.NoteSteps.{
   standing,
   with_all_lasting,
 }
-use Rattle.clog_store.specs.Stepped.{Keeps}
+use Rattle.clog_segments.specs.Stepped.{Keeps}
 use Rattle.clog_store.proofs.NoteCuts.{cut_of, end_behind-append, same_start}
-use Rattle.clog_store.proofs.NoteRuns.{
+use Rattle.clog_segments.proofs.NoteRuns.{
   Reach,
   log_with,
   low_start,

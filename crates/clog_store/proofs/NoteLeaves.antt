@@ -45,14 +45,14 @@ use Rattle.clog_scan.specs.Cut.{Section}
 use Rattle.clog_crash.specs.Log.{Write}
 use Rattle.clog_crash.specs.Sections.{segment_bytes}
 use Rattle.clog_crash.proofs.changes.Names.{one_id}
-use Rattle.clog_store.specs.declared.written.StoreFault.{StoreFault}
-use Rattle.clog_store.specs.declared.written.StoreFault.TheVariants.{Stopped, OutOfMemory}
-use Rattle.clog_store.specs.Beside.{StayButOne}
-use Rattle.clog_store.specs.Grows.{Writes}
-use Rattle.clog_store.specs.Life.{ReadsAs, State, past_with}
-use Rattle.clog_store.specs.NoteLog.{HasWritten, IsNotOf}
+use Rattle.clog_segments.specs.declared.written.StoreFault.{StoreFault}
+use Rattle.clog_segments.specs.declared.written.StoreFault.TheVariants.{Stopped, OutOfMemory}
+use Rattle.clog_segments.specs.Beside.{StayButOne}
+use Rattle.clog_segments.specs.Grows.{Writes}
+use Rattle.clog_segments.specs.Life.{ReadsAs, State, past_with}
+use Rattle.clog_segments.specs.NoteLog.{HasWritten, IsNotOf}
 use Rattle.clog_store.specs.NoteSteps.{Leaves}
-use Rattle.clog_store.specs.Stepped.{AddsBytes, Keeps, Settles}
+use Rattle.clog_segments.specs.Stepped.{AddsBytes, Keeps, Settles}
 use Rattle.clog_store.proofs.NoteGrows.{
   grows_of,
   grows_rolled,
@@ -61,7 +61,7 @@ use Rattle.clog_store.proofs.NoteGrows.{
   writes_of,
   writes_then,
 }
-use Rattle.clog_store.proofs.Lived.{at_told, same_told, told_before}
+use Rattle.clog_segments.proofs.Lived.{at_told, same_told, told_before}
 
 told_weaker : (o : Option Files) (P Q : Files → Type 0) → Told o P → ((f : Files) → P f → Q f)
     → Told o Q

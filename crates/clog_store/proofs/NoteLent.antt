@@ -37,10 +37,10 @@ use Rattle.path_core.specs.declared.note.EntryNote.{EntryNote}
 use Rattle.path_core.specs.Keeper.{FollowTo, GoOnBehind, Tile, last_end}
 use Rattle.path_core.specs.Keys.{after, behind_marker, fits, next_segment}
 use Rattle.path_core.proofs.lists.Heads.{first_or_later}
-use Rattle.clog_store.specs.NoteLog.{IsApart, IsGood, end_behind}
+use Rattle.clog_segments.specs.NoteLog.{IsApart, IsGood, end_behind}
 use Rattle.clog_store.specs.NoteSteps.{StandAhead, StartsBehind}
 use Rattle.clog_store.proofs.NoteCuts.{ahead_from, follow_rest}
-use Rattle.clog_store.proofs.NoteRuns.{placed_good}
+use Rattle.clog_segments.proofs.NoteRuns.{placed_good}
 use Rattle.clog_store.proofs.NoteNext.{in_take}
 use Rattle.clog_store.proofs.NoteParts.{Below, pairs_more}
 

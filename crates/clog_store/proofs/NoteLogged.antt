@@ -36,8 +36,8 @@ use Rattle.clog_scan.specs.Cut.{Section, last_until}
 use Rattle.clog_crash.specs.Runs.{placed_log}
 use Rattle.path_core.specs.declared.note.EntryNote.{EntryNote}
 use Rattle.path_core.specs.Keeper.{GoOnBehind, Tile}
-use Rattle.clog_store.specs.Life.{State}
-use Rattle.clog_store.specs.NoteLog.{
+use Rattle.clog_segments.specs.Life.{State}
+use Rattle.clog_segments.specs.NoteLog.{
   EndsAt,
   IsApart,
   IsFrom,
@@ -49,7 +49,7 @@ use Rattle.clog_store.specs.NoteLog.{
   Stands,
   end_behind,
 }
-use Rattle.clog_store.specs.Notes.{places_of}
+use Rattle.clog_segments.specs.Notes.{places_of}
 use Rattle.clog_store.specs.NoteSteps.{MayRun, ReadyAt, StandAhead, standing}
 use Rattle.clog_store.proofs.NoteEnded.{ended_tiled}
 use Rattle.clog_store.proofs.NoteLent.{

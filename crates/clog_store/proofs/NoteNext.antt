@@ -36,11 +36,11 @@ use Rattle.clog_base.specs.Positions.{ordinal_of, offset_of}
 use Rattle.clog_scan.specs.Cut.{Section, last_until}
 use Rattle.clog_crash.specs.Sections.{next_section}
 use Rattle.path_core.specs.declared.note.EntryNote.{EntryNote}
-use Rattle.clog_store.specs.declared.written.StoreFault.{StoreFault}
-use Rattle.clog_store.specs.declared.written.StoreFault.TheVariants.{Stopped, OutOfMemory}
-use Rattle.clog_store.specs.Life.{State}
-use Rattle.clog_store.specs.NoteLog.{IsApart, IsHeld, Stands, end_behind}
-use Rattle.clog_store.specs.NoteSections.{
+use Rattle.clog_segments.specs.declared.written.StoreFault.{StoreFault}
+use Rattle.clog_segments.specs.declared.written.StoreFault.TheVariants.{Stopped, OutOfMemory}
+use Rattle.clog_segments.specs.Life.{State}
+use Rattle.clog_segments.specs.NoteLog.{IsApart, IsHeld, Stands, end_behind}
+use Rattle.clog_segments.specs.NoteSections.{
   AreOneSection,
   EndToEnd,
   MayBeNext,
@@ -48,7 +48,7 @@ use Rattle.clog_store.specs.NoteSections.{
   payloads_in,
 }
 use Rattle.clog_store.specs.NoteSteps.{Enters, ReadyAt, StandAhead, StartsBehind, standing}
-use Rattle.clog_store.specs.Stepped.{Keeps}
+use Rattle.clog_segments.specs.Stepped.{Keeps}
 use Rattle.clog_store.proofs.NoteCuts.{
   ahead_rest,
   begins_from,
@@ -58,7 +58,7 @@ use Rattle.clog_store.proofs.NoteCuts.{
   same_start,
   starts,
 }
-use Rattle.clog_store.proofs.NoteRuns.{first_is}
+use Rattle.clog_segments.proofs.NoteRuns.{first_is}
 use Rattle.clog_store.proofs.NoteStands.{stands_by}
 use Rattle.clog_store.proofs.NoteHeld.{
   enters_behind,

@@ -3,16 +3,16 @@
 use Rattle.std.proofs.Common.{◌≡◌, ℕ, List, Option, false, sym, ◌∙◌, ap, subst}
 use Rattle.std.specs.Prelude.{Result, Ok, Err}
 use Rattle.std.proofs.lemmas.Bool.{true≢false}
-use Rattle.clog_store.specs.declared.written.StoreFault.{StoreFault}
-use Rattle.clog_store.specs.declared.written.StoreFault.TheVariants.{Stopped, OutOfMemory}
+use Rattle.clog_segments.specs.declared.written.StoreFault.{StoreFault}
+use Rattle.clog_segments.specs.declared.written.StoreFault.TheVariants.{Stopped, OutOfMemory}
 use Rattle.clog_disk.specs.Files.{Files}
 use Rattle.clog_disk.specs.Images.{IsLater}
 use Rattle.clog_crash.specs.Readings.{Reading}
-use Rattle.clog_store.specs.Life.{Lives, LivesOn, State}
-use Rattle.clog_store.specs.NamesLast.{NamesGoOn}
-use Rattle.clog_store.specs.NoteLog.{IsNoteLog, NoteState, Stands}
+use Rattle.clog_segments.specs.Life.{Lives, LivesOn, State}
+use Rattle.clog_segments.specs.NamesLast.{NamesGoOn}
+use Rattle.clog_segments.specs.NoteLog.{IsNoteLog, NoteState, Stands}
 use Rattle.clog_store.specs.NoteSteps.{GoesOn}
-use Rattle.clog_store.specs.Stepped.{Passes}
+use Rattle.clog_segments.specs.Stepped.{Passes}
 use Rattle.clog_store.proofs.NoteFrom.{from_same}
 use Rattle.clog_store.proofs.NoteHeld.{held_same}
 

@@ -50,11 +50,11 @@ use Rattle.clog_crash.specs.Log.{Write}
 use Rattle.clog_crash.specs.Runs.{Placed, placed, placed_log, placed_of}
 use Rattle.clog_crash.specs.Sections.{IsStored, segment_bytes}
 use Rattle.path_core.specs.declared.note.EntryNote.{EntryNote}
-use Rattle.clog_store.specs.Grows.{IsGrown, segments_with}
-use Rattle.clog_store.specs.NoteLog.{IsNoteLog, NoteState}
-use Rattle.clog_store.specs.Notes.{place_of}
-use Rattle.clog_store.specs.StoreFolder.{IsPast, IsSound, log_of}
-use Rattle.clog_store.proofs.FolderReads.{entry_is, has_section}
+use Rattle.clog_segments.specs.Grows.{IsGrown, segments_with}
+use Rattle.clog_segments.specs.NoteLog.{IsNoteLog, NoteState}
+use Rattle.clog_segments.specs.Notes.{place_of}
+use Rattle.clog_segments.specs.StoreFolder.{IsPast, IsSound, log_of}
+use Rattle.clog_segments.proofs.FolderReads.{entry_is, has_section}
 
 -- ---- entries within sections
 

@@ -10,7 +10,7 @@ use Rattle.clog_mutation.specs.Stored.{IsStoredUpdate}
 use Rattle.path_core.specs.declared.note.EntryNote.{EntryNote}
 use Rattle.path_core.specs.Parts.{touches}
 use Rattle.clog_store.specs.Dropping.{ArePlaced, IsPlaced}
-use Rattle.clog_store.specs.NoteLog.{IsGood, IsNoteLog, NoteState}
+use Rattle.clog_segments.specs.NoteLog.{IsGood, IsNoteLog, NoteState}
 
 -- a whole note is of tables that there may be
 pub table_low : (sizes : Sizes) (n : EntryNote) → IsGood sizes n → (t : ℕ)

@@ -37,9 +37,9 @@ use Rattle.clog_base.specs.Positions.{ordinal_of, offset_of, position_of}
 use Rattle.clog_base.proofs.Members.{further, here}
 use Rattle.path_core.specs.declared.note.EntryNote.{EntryNote}
 use Rattle.path_core.specs.Keys.{after, behind_marker, fits, next_segment}
-use Rattle.clog_store.specs.declared.written.StoreFault.{StoreFault}
-use Rattle.clog_store.specs.Life.{State}
-use Rattle.clog_store.specs.NoteLog.{
+use Rattle.clog_segments.specs.declared.written.StoreFault.{StoreFault}
+use Rattle.clog_segments.specs.Life.{State}
+use Rattle.clog_segments.specs.NoteLog.{
   BeginsFrom,
   IsFrom,
   IsHeld,
@@ -49,7 +49,7 @@ use Rattle.clog_store.specs.NoteLog.{
   end_behind,
 }
 use Rattle.clog_store.specs.NoteSteps.{Enters}
-use Rattle.clog_store.specs.StoreFolder.{EndsWithin, IsSound}
+use Rattle.clog_segments.specs.StoreFolder.{EndsWithin, IsSound}
 use Rattle.clog_store.proofs.FolderEnds.{ends_within, none_taken}
 use Rattle.clog_store.proofs.NoteHeld.{held_rolled, held_unentered}
 use Rattle.clog_store.proofs.NoteNext.{in_take}

@@ -3,12 +3,12 @@ use Rattle.std.proofs.Common.{ℕ, List, length, sym, ◌∙◌, ap}
 use Rattle.std.specs.Prelude.{Result, Ok, Err, OnOk}
 use Rattle.clog_base.specs.declared.sizes.Sizes.{Sizes}
 use Rattle.path_core.specs.declared.note.EntryNote.{EntryNote}
-use Rattle.clog_store.specs.declared.written.StoreFault.{StoreFault}
-use Rattle.clog_store.specs.declared.written.StoreFault.TheVariants.{Stopped, OutOfMemory}
-use Rattle.clog_store.specs.Life.{State}
-use Rattle.clog_store.specs.NoteLog.{IsHeld}
+use Rattle.clog_segments.specs.declared.written.StoreFault.{StoreFault}
+use Rattle.clog_segments.specs.declared.written.StoreFault.TheVariants.{Stopped, OutOfMemory}
+use Rattle.clog_segments.specs.Life.{State}
+use Rattle.clog_segments.specs.NoteLog.{IsHeld}
 use Rattle.clog_store.specs.NoteSteps.{StaysReady, standing}
-use Rattle.clog_store.specs.Stepped.{Settles}
+use Rattle.clog_segments.specs.Stepped.{Settles}
 use Rattle.clog_store.proofs.NoteHeld.{held_same, held_settled}
 
 module _ {D T : Type 0} (base : ℕ) (notes : List EntryNote) (log now : State D) (written : ℕ) where

@@ -2,8 +2,8 @@
 use Rattle.std.proofs.Common.{ℕ, ◌≤◌, List, length}
 use Rattle.clog_base.specs.declared.sizes.Sizes.{Sizes}
 use Rattle.path_core.specs.declared.note.EntryNote.{EntryNote}
-use Rattle.clog_store.specs.Life.{State}
-use Rattle.clog_store.specs.NoteLog.{IsHeld, Stands}
+use Rattle.clog_segments.specs.Life.{State}
+use Rattle.clog_segments.specs.NoteLog.{IsHeld, Stands}
 use Rattle.clog_store.specs.NoteSteps.{standing}
 
 pub stands_by : {D : Type 0} (base : ℕ) (notes : List EntryNote) (sizes : Sizes) (synced : ℕ)

@@ -4,7 +4,7 @@ use Rattle.std.specs.List.{AllPairs, Contains}
 use Rattle.std.specs.List.Sorted.{IsPermutation}
 use Rattle.path_core.specs.declared.note.EntryNote.{EntryNote}
 use Rattle.path_core.specs.Keeper.{Holding, IsParted, MaySync, MayWrite}
-use Rattle.clog_store.specs.NoteLog.{
+use Rattle.clog_segments.specs.NoteLog.{
   BeginsFrom,
   HasRefused,
   HasSynced,

@@ -37,10 +37,10 @@ use Rattle.path_core.specs.declared.note.EntryNote.{EntryNote}
 use Rattle.clog_base.proofs.Members.{here, only_one}
 use Rattle.path_core.specs.Keeper.{FollowTo, GoOnBehind, Holding, IsWritable, MayWrite, Tile}
 use Rattle.path_core.specs.Keys.{after}
-use Rattle.clog_store.specs.declared.written.StoreFault.{StoreFault}
-use Rattle.clog_store.specs.declared.written.StoreFault.TheVariants.{Stopped, OutOfMemory}
-use Rattle.clog_store.specs.Life.{State}
-use Rattle.clog_store.specs.NoteLog.{
+use Rattle.clog_segments.specs.declared.written.StoreFault.{StoreFault}
+use Rattle.clog_segments.specs.declared.written.StoreFault.TheVariants.{Stopped, OutOfMemory}
+use Rattle.clog_segments.specs.Life.{State}
+use Rattle.clog_segments.specs.NoteLog.{
   BeginsFrom,
   HasLog,
   IsFrom,
@@ -51,7 +51,7 @@ use Rattle.clog_store.specs.NoteLog.{
   end_behind,
 }
 use Rattle.clog_store.specs.NoteSteps.{Enters, MayRun, ReadyAt, standing}
-use Rattle.clog_store.specs.Stepped.{Passes, Settles}
+use Rattle.clog_segments.specs.Stepped.{Passes, Settles}
 use Rattle.clog_store.specs.StoreTakes.{TakesMore}
 use Rattle.clog_store.proofs.NoteCuts.{follow_rest}
 use Rattle.clog_store.proofs.NoteLent.{starts_above, tile_starts}

@@ -22,7 +22,7 @@ use Rattle.clog_base.proofs.Members.{only_one}
 use Rattle.clog_disk.specs.Files.{Files}
 use Rattle.clog_disk.proofs.Named.{put_here}
 use Rattle.clog_crash.specs.Folder.{IsHeld}
-use Rattle.clog_store.specs.Discards.{AreDroppable}
+use Rattle.clog_segments.specs.Discards.{AreDroppable}
 
 pub one_droppable : (old : Files) (name bytes : List ℕ) (base : ℕ) (told : Option Files)
     → told ≡ Some (finmap.insert old name bytes) → name ≡ segment_name_of 6 (base + 0)

@@ -7,14 +7,14 @@ use Rattle.clog_disk.specs.Images.{IsLater}
 use Rattle.clog_crash.specs.Log.{GoesOn, NoChances, Write}
 use Rattle.clog_crash.specs.Readings.{Reading}
 use Rattle.clog_crash.specs.Restore.{IsUndamaged}
-use Rattle.clog_store.specs.Life.{ShownSince}
-use Rattle.clog_store.specs.NoteLog.{IsNoteLog}
-use Rattle.clog_store.specs.StoreFolder.{IsSound, log_of}
-use Rattle.clog_store.specs.StoreImages.{MostSince, OpensSince}
-use Rattle.clog_store.specs.StoreState.{HasGrown, HoldsItButOne, StoreState, deeds_by}
-use Rattle.clog_store.proofs.Lived.{at_both}
-use Rattle.clog_store.proofs.MostOpens.{most_opens}
-use Rattle.clog_store.proofs.SegmentFiles.{of_a_store, of_none}
+use Rattle.clog_segments.specs.Life.{ShownSince}
+use Rattle.clog_segments.specs.NoteLog.{IsNoteLog}
+use Rattle.clog_segments.specs.StoreFolder.{IsSound, log_of}
+use Rattle.clog_segments.specs.StoreImages.{MostSince, OpensSince}
+use Rattle.clog_segments.specs.StoreState.{HasGrown, HoldsItButOne, StoreState, deeds_by}
+use Rattle.clog_segments.proofs.Lived.{at_both}
+use Rattle.clog_segments.proofs.MostOpens.{most_opens}
+use Rattle.clog_segments.proofs.SegmentFiles.{of_a_store, of_none}
 use Rattle.clog_store.proofs.SegmentLengths.{all_short}
 
 module _ {D : Type 0} (files : D → Option Files) (changes : D → Option (List Change))

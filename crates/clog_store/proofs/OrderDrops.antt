@@ -42,13 +42,13 @@ use Rattle.clog_crash.specs.Log.{Write}
 use Rattle.clog_crash.specs.Readings.{Reading}
 use Rattle.clog_crash.proofs.counts.Growing.{appends_of-append}
 use Rattle.path_core.specs.Keeper.{Holding, MayDrop}
-use Rattle.clog_store.specs.Discards.{all_go_by, next_by}
-use Rattle.clog_store.specs.Life.{State}
-use Rattle.clog_store.specs.NoteLog.{IsNoteLog, NoteState}
+use Rattle.clog_segments.specs.Discards.{all_go_by, next_by}
+use Rattle.clog_segments.specs.Life.{State}
+use Rattle.clog_segments.specs.NoteLog.{IsNoteLog, NoteState}
 use Rattle.clog_store.specs.StoreDrops.{AreDueIn, AreEarlier, HasBeside}
-use Rattle.clog_store.specs.StoreFolder.{Deeds, IsPast, StoreLog, log_of, with_first_gone}
-use Rattle.clog_store.specs.StoreOrder.{AreOrdered, IsFiledWhole, IsWholeIn, StandsBehind}
-use Rattle.clog_store.specs.StoreState.{
+use Rattle.clog_segments.specs.StoreFolder.{Deeds, IsPast, StoreLog, log_of, with_first_gone}
+use Rattle.clog_segments.specs.StoreOrder.{AreOrdered, IsFiledWhole, IsWholeIn, StandsBehind}
+use Rattle.clog_segments.specs.StoreState.{
   HasOrdered,
   IsStore,
   KeepsOrder,

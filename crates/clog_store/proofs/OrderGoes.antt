@@ -33,9 +33,9 @@ use Rattle.clog_crash.specs.Log.{Write}
 use Rattle.path_core.specs.declared.note.EntryNote.{EntryNote}
 use Rattle.path_core.specs.Droppable.{is_of}
 use Rattle.path_core.specs.Keeper.{PutFile}
-use Rattle.clog_store.specs.Grows.{AreAppends, IsAppend}
-use Rattle.clog_store.specs.StoreFolder.{Deeds, IsPast, StoreLog}
-use Rattle.clog_store.specs.StoreOrder.{AreOrdered, ArePutBy, IsFiledWhole, StandsBehind}
+use Rattle.clog_segments.specs.Grows.{AreAppends, IsAppend}
+use Rattle.clog_segments.specs.StoreFolder.{Deeds, IsPast, StoreLog}
+use Rattle.clog_segments.specs.StoreOrder.{AreOrdered, ArePutBy, IsFiledWhole, StandsBehind}
 use Rattle.clog_store.proofs.Cuts.{append_publishes, cut_of, put_still}
 use Rattle.clog_store.proofs.TableLogs.{is_of_parts}
 

@@ -39,13 +39,13 @@ use Rattle.clog_crash.specs.Readings.{Reading}
 use Rattle.clog_table.specs.Refusals.{IsFileOf}
 use Rattle.path_core.specs.Keeper.{Holding, MayPublish, PutFile}
 use Rattle.path_core.specs.Keys.{after}
-use Rattle.clog_store.specs.declared.publishing.Published.{Published}
-use Rattle.clog_store.specs.Grows.{IsGrown}
-use Rattle.clog_store.specs.Life.{State}
-use Rattle.clog_store.specs.NoteLog.{HasLog, IsNoteLog, NoteState}
-use Rattle.clog_store.specs.Publishes.{file_at}
-use Rattle.clog_store.specs.StoreFolder.{PlacedFile, StoreLog, log_of}
-use Rattle.clog_store.specs.StoreOrder.{
+use Rattle.clog_segments.specs.declared.publishing.Published.{Published}
+use Rattle.clog_segments.specs.Grows.{IsGrown}
+use Rattle.clog_segments.specs.Life.{State}
+use Rattle.clog_segments.specs.NoteLog.{HasLog, IsNoteLog, NoteState}
+use Rattle.clog_segments.specs.Publishes.{file_at}
+use Rattle.clog_segments.specs.StoreFolder.{PlacedFile, StoreLog, log_of}
+use Rattle.clog_segments.specs.StoreOrder.{
   AreOrdered,
   AreSettled,
   ComesBehind,
@@ -54,7 +54,7 @@ use Rattle.clog_store.specs.StoreOrder.{
   StandsBehind,
   publish_of,
 }
-use Rattle.clog_store.specs.StoreState.{
+use Rattle.clog_segments.specs.StoreState.{
   HasGrown,
   HasOrdered,
   IsStore,

@@ -36,10 +36,17 @@ use Rattle.clog_crash.specs.Log.{Write}
 use Rattle.path_core.specs.declared.note.EntryNote.{EntryNote}
 use Rattle.path_core.specs.Keeper.{Holding, IsLoggedCell, MaySync, MayWrite, PutFile, Tile}
 use Rattle.path_core.specs.Keys.{after}
-use Rattle.clog_store.specs.declared.written.StoreFault.{StoreFault}
-use Rattle.clog_store.specs.NoteLog.{HasLog, HasRefused, HasSynced, IsGood, LeavesOthers, NoteState}
-use Rattle.clog_store.specs.StoreOrder.{AreSettled, IsSettled}
-use Rattle.clog_store.specs.StoreState.{StoreState, holding_of}
+use Rattle.clog_segments.specs.declared.written.StoreFault.{StoreFault}
+use Rattle.clog_segments.specs.NoteLog.{
+  HasLog,
+  HasRefused,
+  HasSynced,
+  IsGood,
+  LeavesOthers,
+  NoteState,
+}
+use Rattle.clog_segments.specs.StoreOrder.{AreSettled, IsSettled}
+use Rattle.clog_segments.specs.StoreState.{StoreState, holding_of}
 use Rattle.clog_store.proofs.NoteLent.{run_above, starts_above, tile_starts}
 use Rattle.clog_store.proofs.NoteSynced.{run_writes}
 

@@ -46,13 +46,13 @@ use Rattle.clog_crash.specs.Runs.{Placed, placed, placed_log, placed_of}
 use Rattle.clog_crash.specs.Sections.{IsStored, segment_bytes}
 use Rattle.clog_crash.proofs.rest.Sectioned.{ends_at, stored_front}
 use Rattle.path_core.specs.declared.note.EntryNote.{EntryNote}
-use Rattle.clog_store.specs.Grows.{AreFilled, segments_with}
-use Rattle.clog_store.specs.NoteLog.{IsNoteLog, NoteState}
-use Rattle.clog_store.specs.Notes.{place_of}
-use Rattle.clog_store.specs.StoreFolder.{IsSound}
-use Rattle.clog_store.specs.StoreState.{HasGrown}
+use Rattle.clog_segments.specs.Grows.{AreFilled, segments_with}
+use Rattle.clog_segments.specs.NoteLog.{IsNoteLog, NoteState}
+use Rattle.clog_segments.specs.Notes.{place_of}
+use Rattle.clog_segments.specs.StoreFolder.{IsSound}
+use Rattle.clog_segments.specs.StoreState.{HasGrown}
 use Rattle.clog_store.proofs.NoteHeld.{last_until-push}
-use Rattle.clog_store.proofs.NoteRuns.{placed_good}
+use Rattle.clog_segments.proofs.NoteRuns.{placed_good}
 use Rattle.clog_store.proofs.SectionEnds.{last_filled, last_of}
 
 -- ---- one segment

@@ -32,7 +32,7 @@ use Rattle.clog_disk.proofs.Named.{put_here, put_there, same_or_other}
 use Rattle.clog_crash.specs.Folder.{HoldsName, IsBase, IsHeld}
 use Rattle.clog_crash.proofs.OneMore.{bytes_of}
 use Rattle.path_core.specs.Keeper.{PutFile}
-use Rattle.clog_store.specs.StoreFolder.{ArePlacedAt, IsTaken, PlacedFile}
+use Rattle.clog_segments.specs.StoreFolder.{ArePlacedAt, IsTaken, PlacedFile}
 use Rattle.clog_store.specs.WorkedNames.{sequences_of, with_seventh}
 
 -- ---- the next number

@@ -32,13 +32,13 @@ use Rattle.clog_disk.specs.declared.change.Change.{Change}
 use Rattle.clog_crash.specs.Grown.{Append, appends_of}
 use Rattle.clog_crash.specs.Log.{Write}
 use Rattle.clog_crash.proofs.counts.Growing.{appends_of-append}
-use Rattle.clog_store.specs.declared.section_log.dropping.DropFault.{DropFault}
-use Rattle.clog_store.specs.Discarding.{DropsBy}
-use Rattle.clog_store.specs.Discards.{all_go_by, goes_by, names_by, next_by}
-use Rattle.clog_store.specs.Grows.{AreAppends, IsGrown}
-use Rattle.clog_store.specs.Life.{State}
+use Rattle.clog_segments.specs.declared.section_log.dropping.DropFault.{DropFault}
+use Rattle.clog_segments.specs.Discarding.{DropsBy}
+use Rattle.clog_segments.specs.Discards.{all_go_by, goes_by, names_by, next_by}
+use Rattle.clog_segments.specs.Grows.{AreAppends, IsGrown}
+use Rattle.clog_segments.specs.Life.{State}
 use Rattle.clog_store.specs.StoreDrops.{dropped_by, named_by}
-use Rattle.clog_store.specs.StoreState.{HasAppended, HasGrown}
+use Rattle.clog_segments.specs.StoreState.{HasAppended, HasGrown}
 use Rattle.clog_store.proofs.NoteGrows.{added_both, nothing_added}
 
 -- ---- what the disk has made

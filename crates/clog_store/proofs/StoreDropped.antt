@@ -30,8 +30,8 @@ use base.Stored.{Gv}
 use Rattle.clog_disk.specs.declared.change.Change.{Change}
 use Rattle.clog_disk.specs.Files.{Files}
 use Rattle.path_core.specs.Keeper.{DropRefused, Drops, Holding, IsNextDue, archived_with}
-use Rattle.clog_store.specs.declared.written.StoreFault.{StoreFault}
-use Rattle.clog_store.specs.declared.written.StoreFault.TheVariants.{Stopped, OutOfMemory}
+use Rattle.clog_segments.specs.declared.written.StoreFault.{StoreFault}
+use Rattle.clog_segments.specs.declared.written.StoreFault.TheVariants.{Stopped, OutOfMemory}
 use Rattle.clog_store.specs.Dropping.{AreDue}
 use Rattle.clog_store.specs.StoreDrops.{
   AreDueIn,
@@ -39,8 +39,8 @@ use Rattle.clog_store.specs.StoreDrops.{
   HasBeside,
   HasLetGo,
 }
-use Rattle.clog_store.specs.StoreFolder.{with_first_gone}
-use Rattle.clog_store.specs.StoreState.{HasMoved, StoreState, deeds_by, holding_of, told_as}
+use Rattle.clog_segments.specs.StoreFolder.{with_first_gone}
+use Rattle.clog_segments.specs.StoreState.{HasMoved, StoreState, deeds_by, holding_of, told_as}
 use Rattle.clog_store.proofs.DroppedLists.{
   first_archived,
   first_dropped,

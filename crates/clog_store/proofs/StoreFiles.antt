@@ -50,11 +50,11 @@ use Rattle.clog_table.specs.Refusals.{IsFileOf}
 use Rattle.path_core.specs.declared.note.EntryNote.{EntryNote}
 use Rattle.path_core.specs.Keys.{after, first_offset}
 use Rattle.path_core.specs.Keeper.{Holding, IsFresh, IsLoggedCell, MayPublish, PutFile, upper_from}
-use Rattle.clog_store.specs.declared.publishing.Published.{Published}
-use Rattle.clog_store.specs.Life.{State}
-use Rattle.clog_store.specs.Named.{HasSequence, OneHas}
-use Rattle.clog_store.specs.NoteLog.{HasLog, IsNoteLog, NoteState}
-use Rattle.clog_store.specs.Publishes.{
+use Rattle.clog_segments.specs.declared.publishing.Published.{Published}
+use Rattle.clog_segments.specs.Life.{State}
+use Rattle.clog_segments.specs.Named.{HasSequence, OneHas}
+use Rattle.clog_segments.specs.NoteLog.{HasLog, IsNoteLog, NoteState}
+use Rattle.clog_segments.specs.Publishes.{
   HasCome,
   IsNextSequence,
   IsNumbered,
@@ -62,9 +62,16 @@ use Rattle.clog_store.specs.Publishes.{
   MayHaveCome,
   file_at,
 }
-use Rattle.clog_store.specs.StoreFailed.{IsFreeTable, MayStand}
-use Rattle.clog_store.specs.StoreFolder.{HoldsStore, IsSound, StoreLog, deeds_of, log_of, with_file}
-use Rattle.clog_store.specs.StoreState.{
+use Rattle.clog_segments.specs.StoreFailed.{IsFreeTable, MayStand}
+use Rattle.clog_segments.specs.StoreFolder.{
+  HoldsStore,
+  IsSound,
+  StoreLog,
+  deeds_of,
+  log_of,
+  with_file,
+}
+use Rattle.clog_segments.specs.StoreState.{
   HasReached,
   HoldsIt,
   IsStore,
@@ -75,10 +82,10 @@ use Rattle.clog_store.specs.StoreState.{
 }
 use Rattle.clog_store.proofs.FolderDue.{true_here}
 use Rattle.clog_store.proofs.FolderPuts.{holds_next}
-use Rattle.clog_store.proofs.NextNames.{held_next}
-use Rattle.clog_store.proofs.FolderReads.{absent_or_held}
-use Rattle.clog_store.proofs.Live.{row_has, sized_value}
-use Rattle.clog_store.proofs.Lived.{told_before}
+use Rattle.clog_segments.proofs.NextNames.{held_next}
+use Rattle.clog_segments.proofs.FolderReads.{absent_or_held}
+use Rattle.clog_segments.proofs.Live.{row_has, sized_value}
+use Rattle.clog_segments.proofs.Lived.{told_before}
 use Rattle.clog_store.proofs.StoreFolds.{at_some, some_told}
 use Rattle.clog_store.proofs.StoreKept.{some_one}
 

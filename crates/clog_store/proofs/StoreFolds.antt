@@ -33,20 +33,20 @@ use Rattle.clog_crash.specs.Readings.{Reading}
 use Rattle.clog_crash.specs.Sections.{segment_bytes}
 use Rattle.path_core.specs.declared.note.EntryNote.{EntryNote}
 use Rattle.path_core.specs.Keeper.{MaySync}
-use Rattle.clog_store.specs.declared.written.StoreFault.{StoreFault}
-use Rattle.clog_store.specs.declared.written.StoreFault.TheVariants.{Stopped, OutOfMemory}
-use Rattle.clog_store.specs.Grows.{Writes}
-use Rattle.clog_store.specs.Life.{ReadsAs, StandsHere}
-use Rattle.clog_store.specs.NoteLog.{HasRefused, HasSynced, LeavesOthers, NoteState}
-use Rattle.clog_store.specs.Opened.{IsOpened, OpensAs}
-use Rattle.clog_store.specs.Stepped.{HasLogCause, StopsBy}
-use Rattle.clog_store.specs.StoreFolder.{
+use Rattle.clog_segments.specs.declared.written.StoreFault.{StoreFault}
+use Rattle.clog_segments.specs.declared.written.StoreFault.TheVariants.{Stopped, OutOfMemory}
+use Rattle.clog_segments.specs.Grows.{Writes}
+use Rattle.clog_segments.specs.Life.{ReadsAs, StandsHere}
+use Rattle.clog_segments.specs.NoteLog.{HasRefused, HasSynced, LeavesOthers, NoteState}
+use Rattle.clog_segments.specs.Opened.{IsOpened, OpensAs}
+use Rattle.clog_segments.specs.Stepped.{HasLogCause, StopsBy}
+use Rattle.clog_segments.specs.StoreFolder.{
   HoldsStore,
   IsSound,
   fresh_log,
   no_deeds,
 }
-use Rattle.clog_store.specs.StoreState.{
+use Rattle.clog_segments.specs.StoreState.{
   HoldsIt,
   HoldsItButOne,
   IsStore,
@@ -54,11 +54,11 @@ use Rattle.clog_store.specs.StoreState.{
   deeds_by,
   holding_of,
 }
-use Rattle.clog_store.specs.Torn.{StandsTorn}
+use Rattle.clog_segments.specs.Torn.{StandsTorn}
 use Rattle.clog_store.proofs.FolderBegins.{holds_opened}
 use Rattle.clog_store.proofs.FolderFails.{fails_synced}
 use Rattle.clog_store.proofs.FolderSyncs.{holds_notes_synced}
-use Rattle.clog_store.proofs.Lived.{at_told}
+use Rattle.clog_segments.proofs.Lived.{at_told}
 use Rattle.clog_store.proofs.NoteSynced.{run_writes}
 
 -- at its opening

@@ -44,9 +44,9 @@ use Rattle.clog_crash.specs.Log.{Write}
 use Rattle.clog_crash.specs.Readings.{Reading}
 use Rattle.clog_crash.proofs.changes.Names.{is_named, not_segment}
 use Rattle.path_core.specs.Keeper.{PutFile}
-use Rattle.clog_store.specs.AtMost.{IsBroughtBy, HoldsMost, IsAtMostAbove}
-use Rattle.clog_store.specs.StoreFailed.{AllStay, HoldsButOne}
-use Rattle.clog_store.specs.StoreFolder.{
+use Rattle.clog_segments.specs.AtMost.{IsBroughtBy, HoldsMost, IsAtMostAbove}
+use Rattle.clog_segments.specs.StoreFailed.{AllStay, HoldsButOne}
+use Rattle.clog_segments.specs.StoreFolder.{
   ArePlacedAt,
   Deeds,
   HoldsStore,
@@ -54,11 +54,11 @@ use Rattle.clog_store.specs.StoreFolder.{
   StoreLog,
   log_of,
 }
-use Rattle.clog_store.specs.StoreImages.{IsBroughtAtMost, MostSince, TablesSince}
-use Rattle.clog_store.specs.StoreState.{HoldsItButOne, IsStore, StoreState, deeds_by}
-use Rattle.clog_store.proofs.AddsOnly.{not_of_table}
-use Rattle.clog_store.proofs.FolderNames.{AreBelow}
-use Rattle.clog_store.proofs.NextNames.{taken}
+use Rattle.clog_segments.specs.StoreImages.{IsBroughtAtMost, MostSince, TablesSince}
+use Rattle.clog_segments.specs.StoreState.{HoldsItButOne, IsStore, StoreState, deeds_by}
+use Rattle.clog_segments.proofs.AddsOnly.{not_of_table}
+use Rattle.clog_segments.proofs.FolderNames.{AreBelow}
+use Rattle.clog_segments.proofs.NextNames.{taken}
 use Rattle.clog_store.proofs.StoreKept.{all_stay_of, left_of}
 
 -- ---- sequences of files that were put

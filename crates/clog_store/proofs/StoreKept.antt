@@ -69,15 +69,15 @@ use Rattle.path_core.specs.Keeper.{
   SyncRefused,
   Syncs,
 }
-use Rattle.clog_store.specs.declared.written.StoreFault.{StoreFault}
-use Rattle.clog_store.specs.declared.written.StoreFault.TheVariants.{Stopped, OutOfMemory}
-use Rattle.clog_store.specs.Grows.{IsGrown, Writes}
-use Rattle.clog_store.specs.Life.{State}
-use Rattle.clog_store.specs.NamesLast.{NamesLast}
-use Rattle.clog_store.specs.NoteLog.{HasRefused, HasSynced, NoteState}
-use Rattle.clog_store.specs.Stepped.{HasLogCause, StopsBy}
-use Rattle.clog_store.specs.StoreFailed.{AllStay}
-use Rattle.clog_store.specs.StoreFolder.{
+use Rattle.clog_segments.specs.declared.written.StoreFault.{StoreFault}
+use Rattle.clog_segments.specs.declared.written.StoreFault.TheVariants.{Stopped, OutOfMemory}
+use Rattle.clog_segments.specs.Grows.{IsGrown, Writes}
+use Rattle.clog_segments.specs.Life.{State}
+use Rattle.clog_segments.specs.NamesLast.{NamesLast}
+use Rattle.clog_segments.specs.NoteLog.{HasRefused, HasSynced, NoteState}
+use Rattle.clog_segments.specs.Stepped.{HasLogCause, StopsBy}
+use Rattle.clog_segments.specs.StoreFailed.{AllStay}
+use Rattle.clog_segments.specs.StoreFolder.{
   HoldsStore,
   IsSound,
   StoreLog,
@@ -86,8 +86,8 @@ use Rattle.clog_store.specs.StoreFolder.{
   no_deeds,
 }
 use Rattle.clog_store.specs.StoreNames.{RowsLast}
-use Rattle.clog_store.specs.StoreOrder.{AreOrdered, AreSettled}
-use Rattle.clog_store.specs.StoreState.{
+use Rattle.clog_segments.specs.StoreOrder.{AreOrdered, AreSettled}
+use Rattle.clog_segments.specs.StoreState.{
   AppendsAlone,
   HasAppended,
   HasGrown,

@@ -52,20 +52,20 @@ use Rattle.clog_disk.proofs.Moments.{later_still}
 use Rattle.clog_crash.specs.Flush.{IsCovered}
 use Rattle.clog_crash.specs.Readings.{Reading}
 use Rattle.path_core.specs.Keeper.{Holding}
-use Rattle.clog_store.specs.declared.section_log.dropping.DropFault.{DropFault}
-use Rattle.clog_store.specs.declared.written.StoreFault.{StoreFault}
-use Rattle.clog_store.specs.declared.written.StoreFault.TheVariants.{Stopped, OutOfMemory}
-use Rattle.clog_store.specs.Beside.{NamesSegment}
-use Rattle.clog_store.specs.Discarding.{DropsBy, DropsButOne, DropsFiles, IsWithin, fault_of}
-use Rattle.clog_store.specs.Discards.{
+use Rattle.clog_segments.specs.declared.section_log.dropping.DropFault.{DropFault}
+use Rattle.clog_segments.specs.declared.written.StoreFault.{StoreFault}
+use Rattle.clog_segments.specs.declared.written.StoreFault.TheVariants.{Stopped, OutOfMemory}
+use Rattle.clog_segments.specs.Beside.{NamesSegment}
+use Rattle.clog_segments.specs.Discarding.{DropsBy, DropsButOne, DropsFiles, IsWithin, fault_of}
+use Rattle.clog_segments.specs.Discards.{
   AreDroppable,
   all_gone_at,
   first_gone_at,
   next_named_at,
 }
-use Rattle.clog_store.specs.Life.{State}
-use Rattle.clog_store.specs.NoteLog.{IsNoteLog, NoteState}
-use Rattle.clog_store.specs.Stepped.{HasLogCause, Passes, StopsBy}
+use Rattle.clog_segments.specs.Life.{State}
+use Rattle.clog_segments.specs.NoteLog.{IsNoteLog, NoteState}
+use Rattle.clog_segments.specs.Stepped.{HasLogCause, Passes, StopsBy}
 use Rattle.clog_store.specs.StoreDrops.{
   AreDueIn,
   AreEarlier,
@@ -76,8 +76,8 @@ use Rattle.clog_store.specs.StoreDrops.{
   dropped_by,
   named_by,
 }
-use Rattle.clog_store.specs.StoreFailed.{HoldsButOne, IsToGo}
-use Rattle.clog_store.specs.StoreFolder.{
+use Rattle.clog_segments.specs.StoreFailed.{HoldsButOne, IsToGo}
+use Rattle.clog_segments.specs.StoreFolder.{
   Deeds,
   HoldsStore,
   IsSound,
@@ -87,7 +87,7 @@ use Rattle.clog_store.specs.StoreFolder.{
   with_first_gone,
   with_gone,
 }
-use Rattle.clog_store.specs.StoreState.{
+use Rattle.clog_segments.specs.StoreState.{
   AppendsAlone,
   HoldsIt,
   HoldsItButOne,
@@ -110,7 +110,7 @@ use Rattle.clog_store.proofs.DroppedLists.{
 use Rattle.clog_store.proofs.FolderDue.{covered_due, may_be_dropped}
 use Rattle.clog_store.proofs.FolderGoes.{droppable_there, holds_first_gone}
 use Rattle.clog_store.proofs.GoneCuts.{made_by}
-use Rattle.clog_store.proofs.Lived.{at_told, told_before}
+use Rattle.clog_segments.proofs.Lived.{at_told, told_before}
 use Rattle.clog_store.proofs.NotePasses.{passes_same}
 use Rattle.clog_store.proofs.OrderDrops.{order_gone}
 use Rattle.clog_store.proofs.StoreBeside.{

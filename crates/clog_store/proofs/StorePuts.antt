@@ -41,16 +41,16 @@ use Rattle.clog_crash.specs.Readings.{Reading}
 use Rattle.clog_crash.specs.Sections.{segment_bytes}
 use Rattle.path_core.specs.declared.keeper.KeeperFault.{KeeperFault}
 use Rattle.path_core.specs.Keeper.{Holding, IsLoggedCell, MayPublish, PutFile}
-use Rattle.clog_store.specs.declared.written.StoreFault.{StoreFault}
-use Rattle.clog_store.specs.declared.written.StoreFault.TheVariants.{Stopped, OutOfMemory}
-use Rattle.clog_store.specs.Beside.{StayButOne}
-use Rattle.clog_store.specs.Grows.{Writes}
-use Rattle.clog_store.specs.Life.{AllLasts, LastsHere, ReadsAs, StandsHere, State}
-use Rattle.clog_store.specs.NoteLog.{LeavesOthers, NoteState}
-use Rattle.clog_store.specs.Stepped.{HasLogCause, IsQuiet, Passes, StopsBy}
-use Rattle.clog_store.specs.StoreFailed.{HoldsButOne, IsFreeTable, MayStand}
-use Rattle.clog_store.specs.StoreFolder.{Deeds, HoldsStore, IsSound, StoreLog, log_of}
-use Rattle.clog_store.specs.StoreState.{
+use Rattle.clog_segments.specs.declared.written.StoreFault.{StoreFault}
+use Rattle.clog_segments.specs.declared.written.StoreFault.TheVariants.{Stopped, OutOfMemory}
+use Rattle.clog_segments.specs.Beside.{StayButOne}
+use Rattle.clog_segments.specs.Grows.{Writes}
+use Rattle.clog_segments.specs.Life.{AllLasts, LastsHere, ReadsAs, StandsHere, State}
+use Rattle.clog_segments.specs.NoteLog.{LeavesOthers, NoteState}
+use Rattle.clog_segments.specs.Stepped.{HasLogCause, IsQuiet, Passes, StopsBy}
+use Rattle.clog_segments.specs.StoreFailed.{HoldsButOne, IsFreeTable, MayStand}
+use Rattle.clog_segments.specs.StoreFolder.{Deeds, HoldsStore, IsSound, StoreLog, log_of}
+use Rattle.clog_segments.specs.StoreState.{
   HasGrown,
   HasMoved,
   HasReached,
@@ -64,7 +64,7 @@ use Rattle.clog_store.specs.StoreState.{
   told_as,
 }
 use Rattle.clog_store.proofs.FolderFails.{but_none}
-use Rattle.clog_store.proofs.Lived.{at_told, told_before}
+use Rattle.clog_segments.proofs.Lived.{at_told, told_before}
 use Rattle.clog_store.proofs.NoteGrows.{grows_same, writes_of}
 use Rattle.clog_store.proofs.NotePasses.{passes_runs, passes_same}
 use Rattle.clog_store.proofs.OrderSyncs.{goes_for_none, settled_same}

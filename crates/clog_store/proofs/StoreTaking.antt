@@ -23,12 +23,12 @@ use Rattle.std.proofs.lemmas.Bool.{true≢false}
 use Rattle.std.proofs.lemmas.List.{take_all}
 use Rattle.std.proofs.lemmas.List.Elements.{Contains-append_left, Contains-append_right}
 use Rattle.clog_base.specs.declared.sizes.Sizes.{Sizes}
-use Rattle.clog_store.specs.declared.written.StoreFault.{StoreFault}
-use Rattle.clog_store.specs.declared.written.StoreFault.TheVariants.{Stopped, OutOfMemory}
-use Rattle.clog_store.specs.Life.{State}
-use Rattle.clog_store.specs.Stepped.{IsQuiet}
+use Rattle.clog_segments.specs.declared.written.StoreFault.{StoreFault}
+use Rattle.clog_segments.specs.declared.written.StoreFault.TheVariants.{Stopped, OutOfMemory}
+use Rattle.clog_segments.specs.Life.{State}
+use Rattle.clog_segments.specs.Stepped.{IsQuiet}
 use Rattle.clog_store.specs.StoreDrops.{AreDueIn, HasLetGo}
-use Rattle.clog_store.specs.StoreState.{HasMoved, StoreState, deeds_by, store_over, told_as}
+use Rattle.clog_segments.specs.StoreState.{HasMoved, StoreState, deeds_by, store_over, told_as}
 use Rattle.clog_store.specs.StoreTakes.{
   GoesOnTaking,
   HasDueAtHand,

@@ -60,7 +60,7 @@ use Rattle.path_core.specs.Keeper.{IsFiledIn, PutFile}
 use Rattle.path_core.specs.Parts.{touches}
 use Rattle.path_core.proofs.lists.Passing.{filter_from, kept_in}
 use Rattle.clog_store.specs.declared.hulls.SegmentHull.{SegmentHull}
-use Rattle.clog_store.specs.declared.publishing.Published.{Published}
+use Rattle.clog_segments.specs.declared.publishing.Published.{Published}
 use Rattle.clog_store.specs.declared.table_log.TableLog.{TableLog}
 use Rattle.clog_store.specs.Counting.{AreTables, IsTableOf}
 use Rattle.clog_store.specs.Dropping.{

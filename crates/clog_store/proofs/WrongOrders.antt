@@ -22,10 +22,10 @@ use Rattle.clog_disk.specs.declared.change.Change.TheVariants as change
 use Rattle.clog_crash.specs.Worked.{logged}
 use Rattle.clog_crash.proofs.worked.Files.{ab, cd, one_in_order}
 use Rattle.path_core.specs.Keeper.{PutFile}
-use Rattle.clog_store.specs.Discards.{goes_by}
-use Rattle.clog_store.specs.Notes.{note_at}
-use Rattle.clog_store.specs.StoreFolder.{PlacedFile}
-use Rattle.clog_store.specs.StoreOrder.{AreOrdered, publish_of}
+use Rattle.clog_segments.specs.Discards.{goes_by}
+use Rattle.clog_segments.specs.Notes.{note_at}
+use Rattle.clog_segments.specs.StoreFolder.{PlacedFile}
+use Rattle.clog_segments.specs.StoreOrder.{AreOrdered, publish_of}
 use Rattle.clog_store.specs.WorkedOrder.{
   IsFirstFile,
   the_append,

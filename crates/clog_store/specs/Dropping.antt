@@ -28,7 +28,7 @@ use Rattle.path_core.specs.Droppable.{is_of}
 use Rattle.path_core.specs.Keeper.{Holding, IsDue, IsFiledIn, PutFile}
 use Rattle.path_core.specs.Parts.{touches}
 use Rattle.clog_store.specs.declared.hulls.SegmentHull.{SegmentHull}
-use Rattle.clog_store.specs.declared.publishing.Published.{Published}
+use Rattle.clog_segments.specs.declared.publishing.Published.{Published}
 use Rattle.clog_store.specs.declared.table_log.TableLog.{TableLog}
 use Rattle.clog_store.specs.HullRows.{hull_at}
 

@@ -31,11 +31,11 @@ use Rattle.clog_crash.specs.Log.{Write}
 use Rattle.clog_crash.specs.Readings.{Reading}
 use Rattle.path_core.specs.declared.note.EntryNote.{EntryNote}
 use Rattle.path_core.specs.Keeper.{FollowTo, Holding, MayWrite}
-use Rattle.clog_store.specs.declared.written.StoreFault.{StoreFault}
-use Rattle.clog_store.specs.Grows.{Writes}
-use Rattle.clog_store.specs.Life.{Lives, LivesOn, State, past_with}
-use Rattle.clog_store.specs.NamesLast.{NamesGoOn}
-use Rattle.clog_store.specs.NoteLog.{
+use Rattle.clog_segments.specs.declared.written.StoreFault.{StoreFault}
+use Rattle.clog_segments.specs.Grows.{Writes}
+use Rattle.clog_segments.specs.Life.{Lives, LivesOn, State, past_with}
+use Rattle.clog_segments.specs.NamesLast.{NamesGoOn}
+use Rattle.clog_segments.specs.NoteLog.{
   BeginsFrom,
   HasLog,
   IsGood,

@@ -17,13 +17,13 @@ use Rattle.std.specs.Prelude.{
   Err,
 }
 use Rattle.path_core.specs.Keeper.{DropRefused, Drops, Holding, PutFile}
-use Rattle.clog_store.specs.declared.section_log.dropping.DropFault.{DropFault}
-use Rattle.clog_store.specs.declared.written.StoreFault.{StoreFault}
-use Rattle.clog_store.specs.Discards.{MayBeNamed}
+use Rattle.clog_segments.specs.declared.section_log.dropping.DropFault.{DropFault}
+use Rattle.clog_segments.specs.declared.written.StoreFault.{StoreFault}
+use Rattle.clog_segments.specs.Discards.{MayBeNamed}
 use Rattle.clog_store.specs.Dropping.{AreDue}
-use Rattle.clog_store.specs.NoteLog.{HasLog, NoteState}
-use Rattle.clog_store.specs.StoreFolder.{with_first_gone}
-use Rattle.clog_store.specs.StoreState.{StoreState, deeds_by}
+use Rattle.clog_segments.specs.NoteLog.{HasLog, NoteState}
+use Rattle.clog_segments.specs.StoreFolder.{with_first_gone}
+use Rattle.clog_segments.specs.StoreState.{StoreState, deeds_by}
 
 -- ---- which are due
 

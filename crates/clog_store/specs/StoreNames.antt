@@ -2,9 +2,9 @@
 use Rattle.std.specs.Prelude.{◌≡◌, ℕ, List, Option, Some, false}
 use Rattle.clog_disk.specs.Files.{Files}
 use Rattle.clog_disk.specs.Images.{LastsAs}
-use Rattle.clog_store.specs.NamesLast.{IsOpen}
-use Rattle.clog_store.specs.StoreFolder.{HoldsStore, IsRow, log_of}
-use Rattle.clog_store.specs.StoreState.{StoreState, deeds_by}
+use Rattle.clog_segments.specs.NamesLast.{IsOpen}
+use Rattle.clog_segments.specs.StoreFolder.{HoldsStore, IsRow, log_of}
+use Rattle.clog_segments.specs.StoreState.{StoreState, deeds_by}
 
 -- While the disk has not failed, each name that the store wrote lasts: those of its segments, but
 -- for the one at hand while a section of it does not last, of those that it archived, and of the

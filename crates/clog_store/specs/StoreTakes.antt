@@ -3,9 +3,9 @@
 use Rattle.std.specs.Prelude.{◌≡◌, ◌⊎◌, ℕ, ◌+◌, false, List, drop, Contains, Result, Ok, Err}
 use Rattle.path_core.specs.declared.note.EntryNote.{EntryNote}
 use Rattle.path_core.specs.Keeper.{Holding, IsDue, MayWrite}
-use Rattle.clog_store.specs.NoteLog.{BeginsFrom, HasLog, NoteState}
+use Rattle.clog_segments.specs.NoteLog.{BeginsFrom, HasLog, NoteState}
 use Rattle.clog_store.specs.StoreDrops.{HasBeside}
-use Rattle.clog_store.specs.StoreState.{StoreState}
+use Rattle.clog_segments.specs.StoreState.{StoreState}
 
 -- ---- a log of notes
 

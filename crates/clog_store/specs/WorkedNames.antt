@@ -3,7 +3,7 @@ use Rattle.std.specs.Prelude.{ℕ, List, map}
 use Rattle.std.specs.FinMap as finmap
 use Rattle.clog_spec.specs.Names.{table_name_of}
 use Rattle.clog_disk.specs.Files.{Files, no_files}
-use Rattle.clog_store.specs.StoreFolder.{PlacedFile}
+use Rattle.clog_segments.specs.StoreFolder.{PlacedFile}
 
 abbrev pub with_seventh : List ℕ → Files
 with_seventh bytes = finmap.insert no_files (table_name_of 0 7) bytes

@@ -12,11 +12,11 @@ use Rattle.clog_crash.specs.Sections.{segment_bytes}
 use Rattle.clog_table.specs.Format.{table_file_bytes}
 use Rattle.clog_crash.specs.Worked.{logged, the_mutation}
 use Rattle.path_core.specs.Keeper.{PutFile}
-use Rattle.clog_store.specs.Discards.{goes_by}
-use Rattle.clog_store.specs.Notes.{note_at}
-use Rattle.clog_store.specs.OnDisk.{file_on}
-use Rattle.clog_store.specs.StoreFolder.{Deeds, PlacedFile, StoreLog}
-use Rattle.clog_store.specs.StoreOrder.{IsSpelled, publish_of}
+use Rattle.clog_segments.specs.Discards.{goes_by}
+use Rattle.clog_segments.specs.Notes.{note_at}
+use Rattle.clog_segments.specs.OnDisk.{file_on}
+use Rattle.clog_segments.specs.StoreFolder.{Deeds, PlacedFile, StoreLog}
+use Rattle.clog_segments.specs.StoreOrder.{IsSpelled, publish_of}
 
 abbrev pub the_section : Section
 the_section = record { until = 60; payloads = payload_of the_mutation ∷ [] }

@@ -3,7 +3,7 @@
 use Rattle.std.specs.Prelude.{◌≡◌, ℕ, Bool, if◌then◌else◌, List, [], ◌∷◌}
 use Rattle.path_core.specs.declared.note.EntryNote.{EntryNote}
 use Rattle.path_core.specs.Keeper.{Holding, PutFile}
-use Rattle.clog_store.specs.Notes.{note_at}
+use Rattle.clog_segments.specs.Notes.{note_at}
 
 -- an entry of these tables, as bits
 abbrev pub note_of : ℕ → ℕ → EntryNote

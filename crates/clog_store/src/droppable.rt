@@ -13,7 +13,7 @@ ghost use Rattle.clog_store.specs.Dropping.{
   LetsGo,
   PicksIf,
 };
-ghost use Rattle.clog_store.specs.OnDisk.{IsOnDisk};
+ghost use Rattle.clog_segments.specs.OnDisk.{IsOnDisk};
 
 use crate::table_log::{TableLog, are_filed};
 use clog_base::{Key, OutOfMemory};

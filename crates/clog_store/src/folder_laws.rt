@@ -32,10 +32,10 @@ ghost use Rattle.path_core.specs.declared.note.EntryNote.{EntryNote as entry_not
 ghost use Rattle.path_core.specs.Keys.{after, marker_size};
 ghost use Rattle.path_core.specs.Keeper.{Holding, IsDue, MayPublish, PutFile};
 ghost use Rattle.clog_store.specs.Dropping.{AreDue};
-ghost use Rattle.clog_store.specs.Discards.{all_gone_at, first_gone_at};
-ghost use Rattle.clog_store.specs.Life.{past_with};
-ghost use Rattle.clog_store.specs.Named.{HasSequence, OneHas};
-ghost use Rattle.clog_store.specs.NoteLog.{
+ghost use Rattle.clog_segments.specs.Discards.{all_gone_at, first_gone_at};
+ghost use Rattle.clog_segments.specs.Life.{past_with};
+ghost use Rattle.clog_segments.specs.Named.{HasSequence, OneHas};
+ghost use Rattle.clog_segments.specs.NoteLog.{
   HasLog,
   IsHeld,
   IsNoteLog,
@@ -43,10 +43,10 @@ ghost use Rattle.clog_store.specs.NoteLog.{
   NoteState,
   Reaches,
 };
-ghost use Rattle.clog_store.specs.OnDisk.{IsAllOnDisk, file_on};
-ghost use Rattle.clog_store.specs.Opened.{IsOpened};
-ghost use Rattle.clog_store.specs.Publishes.{IsTrueHere};
-ghost use Rattle.clog_store.specs.StoreFolder.{
+ghost use Rattle.clog_segments.specs.OnDisk.{IsAllOnDisk, file_on};
+ghost use Rattle.clog_segments.specs.Opened.{IsOpened};
+ghost use Rattle.clog_segments.specs.Publishes.{IsTrueHere};
+ghost use Rattle.clog_segments.specs.StoreFolder.{
   Deeds,
   EndsWithin,
   GoesOn,

@@ -3,7 +3,7 @@
 ghost use Rattle.std.specs.Prelude.{◌≡◌, ◌++◌, ◌+◌, ◌<◌, ◌^◌, IfOk};
 ghost use Rattle.clog_spec.specs.Segment.{header_bytes, marker_bytes};
 ghost use Rattle.clog_spec.specs.Sizes.{front_size, header_size, marker_size};
-ghost use Rattle.clog_store.specs.NoteSections.{IsFrontOf};
+ghost use Rattle.clog_segments.specs.NoteSections.{IsFrontOf};
 
 use clog_base::{FRONT_SIZE, HEADER_SIZE, MARKER_SIZE};
 use clog_entry::{write_header, write_marker};

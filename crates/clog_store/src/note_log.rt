@@ -21,13 +21,13 @@ ghost use Rattle.std.specs.Prelude.{
 };
 ghost use Rattle.clog_base.specs.Positions.{ordinal_of};
 ghost use Rattle.clog_disk.specs.Images.{IsLater};
-ghost use Rattle.clog_store.specs.Grows.{Grows, Writes};
+ghost use Rattle.clog_segments.specs.Grows.{Grows, Writes};
 ghost use Rattle.clog_spec.specs.Names.{segment_name_of};
 ghost use Rattle.clog_crash.specs.Sections.{segment_bytes};
-ghost use Rattle.clog_store.specs.Life.{LastsHere, Lives, LivesOn, ReadsAs, StandsHere};
-ghost use Rattle.clog_store.specs.NamesLast.{NamesGoOn};
-ghost use Rattle.clog_store.specs.StoreFolder.{IsSound};
-ghost use Rattle.clog_store.specs.NoteLog.{
+ghost use Rattle.clog_segments.specs.Life.{LastsHere, Lives, LivesOn, ReadsAs, StandsHere};
+ghost use Rattle.clog_segments.specs.NamesLast.{NamesGoOn};
+ghost use Rattle.clog_segments.specs.StoreFolder.{IsSound};
+ghost use Rattle.clog_segments.specs.NoteLog.{
   BeginsFrom,
   HasRefused,
   HasSynced,
@@ -36,7 +36,7 @@ ghost use Rattle.clog_store.specs.NoteLog.{
   MayLog,
 };
 ghost use Rattle.clog_store.specs.NoteSteps.{GoesOn, Leaves, Logs, LogsNot, MayRun};
-ghost use Rattle.clog_store.specs.Stepped.{HasLogCause, StopsBy};
+ghost use Rattle.clog_segments.specs.Stepped.{HasLogCause, StopsBy};
 ghost use Rattle.clog_store.specs.StoreTakes.{StillTakes};
 
 mod dropping;
@@ -47,10 +47,9 @@ mod telling;
 use crate::note_order::{drop_front, part_at};
 use crate::note_sections::copies_of;
 use crate::note_writing::write_all;
-use crate::section_log::SectionLog;
-use crate::written::StoreFault;
 use clog_base::{Key, Sizes};
 use clog_disk::Disk;
+use clog_segments::{SectionLog, StoreFault};
 use path_core::EntryNote;
 use std::alloc::Global;
 use std::marker::Model;
@@ -74,7 +73,7 @@ pub struct NoteLog<D: Disk> {
 }
 
 impl<D: Disk> Model for NoteLog<D> {
-    ghost use Rattle.clog_store.specs.NoteLog.{IsNoteLog, NoteState};
+    ghost use Rattle.clog_segments.specs.NoteLog.{IsNoteLog, NoteState};
 
     ghost Value = { NoteState D };
 

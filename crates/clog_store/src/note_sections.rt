@@ -2,7 +2,7 @@
 ghost use Rattle.std.specs.Prelude.{◌≡◌, ◌++◌, ◌+◌, ◌<◌, ◌≤◌, ◌^◌, IfOk, OnOk, length};
 ghost use Rattle.clog_spec.specs.Sizes.{greatest_capacity};
 ghost use Rattle.clog_crash.specs.Sections.{next_bytes};
-ghost use Rattle.clog_store.specs.NoteSections.{
+ghost use Rattle.clog_segments.specs.NoteSections.{
   AreOneSection,
   bytes_in,
   payloads_in,
@@ -10,9 +10,8 @@ ghost use Rattle.clog_store.specs.NoteSections.{
 };
 
 use crate::next::front_of;
-use crate::payloads::Payloads;
-use crate::written::Written;
 use clog_base::{Bytes, FRONT_SIZE, MARKER_SIZE};
+use clog_segments::{Payloads, Written};
 use path_core::EntryNote;
 use std::alloc::{AllocError, Global};
 

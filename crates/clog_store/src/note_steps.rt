@@ -2,15 +2,13 @@
 //! notes that stand end to end are its next section.
 ghost use Rattle.std.specs.Prelude.{◌≡◌, ◌<◌, ◌≤◌, ◌^◌, length, false};
 ghost use Rattle.clog_crash.specs.Sections.{next_section};
-ghost use Rattle.clog_store.specs.NoteSections.{MayBeNext, payloads_in};
+ghost use Rattle.clog_segments.specs.NoteSections.{MayBeNext, payloads_in};
 ghost use Rattle.clog_store.specs.NoteSteps.{Enters, GoesOn, Leaves};
-ghost use Rattle.clog_store.specs.Stepped.{HasLogCause, Keeps, StopsBy};
+ghost use Rattle.clog_segments.specs.Stepped.{HasLogCause, Keeps, StopsBy};
 
 use crate::note_sections::section_of;
-use crate::payloads::Payloads;
-use crate::section_log::SectionLog;
-use crate::written::StoreFault;
 use clog_disk::Disk;
+use clog_segments::{Payloads, SectionLog, StoreFault};
 use path_core::EntryNote;
 use std::alloc::Global;
 

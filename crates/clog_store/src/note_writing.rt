@@ -10,14 +10,12 @@ ghost use Rattle.clog_store.specs.NoteSteps.{
   StaysReady,
   StaysStanding,
 };
-ghost use Rattle.clog_store.specs.Stepped.{HasLogCause, StopsBy};
+ghost use Rattle.clog_segments.specs.Stepped.{HasLogCause, StopsBy};
 
 use crate::note_sections::section_length;
 use crate::note_steps::{enter, keep_notes};
-use crate::payloads::Payloads;
-use crate::section_log::SectionLog;
-use crate::written::StoreFault;
 use clog_disk::Disk;
+use clog_segments::{Payloads, SectionLog, StoreFault};
 use path_core::EntryNote;
 use std::alloc::Global;
 use std::snapshot::Snapshot;

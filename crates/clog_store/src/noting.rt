@@ -6,7 +6,7 @@ ghost use Rattle.clog_crash.specs.Runs.{BeginsAt, Run, run_from};
 ghost use Rattle.clog_crash.specs.WorkedRuns.{the_runs};
 ghost use Rattle.path_core.specs.declared.note.EntryNote.{EntryNote};
 ghost use Rattle.path_core.specs.Keeper.{Holding, IsWritable, MayWrite};
-ghost use Rattle.clog_store.specs.Notes.{
+ghost use Rattle.clog_segments.specs.Notes.{
   MakeRuns,
   payload_in,
   place_of,

@@ -2,9 +2,9 @@
 //! worked rows.
 ghost use Rattle.std.specs.Prelude.{◌≡◌, Bool, List, ℕ, [], true, ◌∷◌};
 ghost use Rattle.path_core.specs.Keeper.{Drops, Holding, PutFile};
-ghost use Rattle.clog_store.specs.StoreFolder.{ArePlacedAt, PlacedFile};
+ghost use Rattle.clog_segments.specs.StoreFolder.{ArePlacedAt, PlacedFile};
 ghost use Rattle.clog_store.specs.WorkedNames.{sequences_of, with_seventh};
-ghost use Rattle.clog_store.specs.StoreOrder.{AreOrdered};
+ghost use Rattle.clog_segments.specs.StoreOrder.{AreOrdered};
 ghost use Rattle.clog_store.specs.WorkedOrder.{
   IsFirstFile,
   the_changes,

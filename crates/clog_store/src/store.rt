@@ -11,8 +11,8 @@
 //! it has counted is of its first entries, files and dropped segments (`IsCountedIn`).
 ghost use Rattle.std.specs.Prelude.{◌≡◌, ◌<◌, ◌^◌};
 ghost use Rattle.clog_store.specs.Dropping.{IsPublished};
-ghost use Rattle.clog_store.specs.NamesLast.{NamesLast};
-ghost use Rattle.clog_store.specs.StoreState.{told_as};
+ghost use Rattle.clog_segments.specs.NamesLast.{NamesLast};
+ghost use Rattle.clog_segments.specs.StoreState.{told_as};
 
 mod closing;
 mod counting;
@@ -26,10 +26,9 @@ mod telling;
 
 use crate::counted::Counted;
 use crate::note_log::NoteLog;
-use crate::publishing::Published;
-use crate::written::StoreFault;
 use clog_cells::CellMap;
 use clog_disk::Disk;
+use clog_segments::{Published, StoreFault};
 pub use crossing::a_store_crosses_threads;
 use path_core::KeeperFault;
 use std::marker::Model;
@@ -85,8 +84,8 @@ pub struct Store<D: Disk> {
 impl<D: Disk> Model for Store<D> {
     ghost use Rattle.std.specs.Prelude.{◌≡◌};
     ghost use Rattle.clog_store.specs.Counting.{IsCountedIn};
-    ghost use Rattle.clog_store.specs.NamesLast.{NamesLast};
-    ghost use Rattle.clog_store.specs.StoreState.{IsStore, StoreState};
+    ghost use Rattle.clog_segments.specs.NamesLast.{NamesLast};
+    ghost use Rattle.clog_segments.specs.StoreState.{IsStore, StoreState};
 
     ghost Value = { StoreState D };
 

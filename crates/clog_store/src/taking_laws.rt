@@ -5,7 +5,7 @@ ghost use Rattle.clog_base.specs.Positions.{ordinal_of};
 ghost use Rattle.path_core.specs.declared.note.EntryNote.{EntryNote as entry_note};
 ghost use Rattle.path_core.specs.Keeper.{Holding, IsWritable};
 ghost use Rattle.path_core.specs.Keys.{after};
-ghost use Rattle.clog_store.specs.NoteLog.{HasLog, IsHeld, NoteState};
+ghost use Rattle.clog_segments.specs.NoteLog.{HasLog, IsHeld, NoteState};
 ghost use Rattle.clog_store.specs.StoreTakes.{TakesMore};
 
 use clog_disk::Disk;

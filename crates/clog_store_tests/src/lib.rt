@@ -1,5 +1,6 @@
-//! Tests of the store over disks in memory, through its public calls. They stand in a crate of their
-//! own, since a crate that has tests is proved a second time with them, and the store is the largest.
+//! Tests of the store, and of the log over segments below it, over disks in memory, through their
+//! public calls. They stand in a crate of their own, since a crate that has tests is proved a second
+//! time with them.
 #![tactic(auto)]
 
 #[cfg(test)]

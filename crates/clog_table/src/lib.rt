@@ -22,6 +22,3 @@ pub use head::Head;
 pub use laws::table_laws;
 pub use table_file::TableFile;
 pub use writing::{encode, encode_parts};
-
-#[cfg(test)]
-mod tests;

@@ -8,8 +8,6 @@ mod generator;
 mod read;
 mod refusal;
 mod split;
-#[cfg(test)]
-mod tests;
 mod tokens;
 mod usual;
 

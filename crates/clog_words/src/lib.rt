@@ -11,8 +11,6 @@ mod laws;
 mod number;
 mod options;
 mod request;
-#[cfg(test)]
-mod tests;
 
 pub use built::{Built, parse_built};
 pub use commands::parse;

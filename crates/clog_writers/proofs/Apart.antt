@@ -32,10 +32,10 @@ use Rattle.clog_applied.proofs.Lists.{from_filter, in_filter}
 use Rattle.path_core.specs.declared.note.EntryNote.{EntryNote}
 use Rattle.path_core.specs.Keeper.{Holding}
 use Rattle.path_core.specs.LawfulLog.{is_at_most}
-use Rattle.path_rule.specs.declared.trying.PathSeat.{PathSeat}
 use Rattle.path_rule.specs.declared.view.OwnStep.{OwnStep}
 use Rattle.path_rule.specs.declared.view.PathSize.{PathSize}
-use Rattle.path_rule.specs.Members.{view_of}
+use Rattle.path_table.specs.declared.trying.PathSeat.{PathSeat}
+use Rattle.path_table.specs.Members.{view_of}
 use Rattle.clog_closing.specs.Gaps.{StandApart}
 use Rattle.write_path.specs.Closed.{IsOutcome}
 use Rattle.write_path.specs.Ends.{writes_of}

@@ -31,12 +31,12 @@ use Rattle.clog_crash.specs.Grown.{appends_of}
 use Rattle.clog_crash.specs.Log.{Write}
 use Rattle.path_core.specs.declared.note.EntryNote.{EntryNote}
 use Rattle.path_core.specs.Keeper.{Holding, PutFile}
-use Rattle.clog_store.specs.Grows.{AreAppends, segments_with}
-use Rattle.clog_store.specs.NoteLog.{IsNoteLog}
+use Rattle.clog_segments.specs.Grows.{AreAppends, segments_with}
+use Rattle.clog_segments.specs.NoteLog.{IsNoteLog}
 use Rattle.clog_store.proofs.NoteGrows.{rises_with}
-use Rattle.clog_store.specs.StoreFolder.{IsSound, log_of}
-use Rattle.clog_store.specs.StoreOrder.{AreSettled}
-use Rattle.clog_store.specs.StoreState.{
+use Rattle.clog_segments.specs.StoreFolder.{IsSound, log_of}
+use Rattle.clog_segments.specs.StoreOrder.{AreSettled}
+use Rattle.clog_segments.specs.StoreState.{
   AppendsAlone,
   HasGrown,
   HasOrdered,

@@ -54,18 +54,18 @@ use Rattle.clog_applied.specs.History.{
 }
 use Rattle.path_core.specs.declared.note.EntryNote.{EntryNote}
 use Rattle.path_core.specs.Whole.{IsWhole}
-use Rattle.clog_store.specs.Grows.{segments_with}
-use Rattle.clog_store.specs.Life.{
+use Rattle.clog_segments.specs.Grows.{segments_with}
+use Rattle.clog_segments.specs.Life.{
   LastsNow,
   MayGoOnIn,
   ShownSince,
   lasting_in,
 }
-use Rattle.clog_store.specs.NoteLog.{IsNoteLog, NoteState}
-use Rattle.clog_store.specs.Notes.{
+use Rattle.clog_segments.specs.NoteLog.{IsNoteLog, NoteState}
+use Rattle.clog_segments.specs.Notes.{
   payload_in,
 }
-use Rattle.clog_store.proofs.Lived.{at_both}
+use Rattle.clog_segments.proofs.Lived.{at_both}
 use Rattle.clog_layout.specs.Logged.{AreEntriesOf, AreNotesOf}
 use Rattle.clog_layout.proofs.Lines.{are_notes, lines_for}
 use Rattle.clog_closing.proofs.Logs.{payload_is, places_are}

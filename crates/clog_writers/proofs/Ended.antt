@@ -27,9 +27,9 @@ use Rattle.clog_words.specs.declared.request.ApplyOptions.{ApplyOptions}
 use Rattle.sync_core.specs.declared.SyncCore.{SyncCore}
 use Rattle.sync_core.specs.declared.SyncCore.TheVariants.{Batch}
 use Rattle.path_core.specs.Keeper.{Holding}
-use Rattle.clog_store.specs.NoteLog.{IsNoteLog}
-use Rattle.clog_store.specs.StoreFolder.{IsSound}
-use Rattle.clog_store.specs.StoreState.{HasOrdered, HoldsIt, StoreState, holding_of}
+use Rattle.clog_segments.specs.NoteLog.{IsNoteLog}
+use Rattle.clog_segments.specs.StoreFolder.{IsSound}
+use Rattle.clog_segments.specs.StoreState.{HasOrdered, HoldsIt, StoreState, holding_of}
 use Rattle.clog_layout.specs.Ends.{synced_to}
 use Rattle.clog_closing.specs.Beside.{HasFinished}
 use Rattle.clog_closing.specs.Drained.{HasBegun, HasNoDeeds}
@@ -39,7 +39,7 @@ use Rattle.clog_closing.proofs.Dropped.{StoresAreLeft}
 use Rattle.write_path.specs.declared.commit.Receipt.{Receipt}
 use Rattle.clog_writers.specs.Logged.{HaveFlushedShares, LogsShares}
 use Rattle.clog_writers.specs.Placed.{AreAtTheirLines}
-use Rattle.clog_writers.specs.Written.{IsAskedBy, TellsWrittenShares}
+use Rattle.clog_writers.specs.Written.{AsksFor, TellsWrittenShares}
 use Rattle.clog_writers.proofs.Leaving.{written as written_in}
 
 module _ {D : Type 0} (files : D → Option Files) (changes : D → Option (List Change))
@@ -73,7 +73,7 @@ module _ {D : Type 0} (files : D → Option Files) (changes : D → Option (List
   ]
 
   pub written : (mode : SyncCore) → (mode ≡ Batch → StandApart sizes.capacity e.notes.logged)
-      → (options : ApplyOptions) → IsAskedBy options sizes mode flush e.archives drain
+      → (options : ApplyOptions) → AsksFor options sizes mode flush e.archives drain
       → (receipts : List Receipt) → AreAtTheirLines base e.notes.logged receipts
       → length receipts ≡ length ms → (opened : Files) (made : List Change)
       → files e.first ≡ Some opened → changes e.first ≡ Some made

@@ -60,11 +60,11 @@ use Rattle.path_core.proofs.lists.Inserted.{map_from, map_old}
 use Rattle.path_core.proofs.lists.Passing.{any_to, filter_from, kept_in}
 use Rattle.path_core.proofs.log.ClaimEnds.{same_end}
 use Rattle.path_core.proofs.runs.EveryRun.{opening_lawful, past_lawful}
-use Rattle.path_rule.specs.declared.trying.PathSeat.{PathSeat}
 use Rattle.path_rule.specs.declared.view.PathSize.{PathSize}
 use Rattle.path_rule.specs.Filing.{IsCellBetween, file_range}
 use Rattle.path_rule.specs.Rule.{start_of}
 use Rattle.path_rule.proofs.log.NotesBehind.{ends_below}
+use Rattle.path_table.specs.declared.trying.PathSeat.{PathSeat}
 use Rattle.clog_closing.specs.Beside.{HasGoodDeeds, HoldsNote}
 use Rattle.clog_closing.specs.Sequence.{AreInSequence}
 use Rattle.write_path.specs.Closed.{IsOutcome}

@@ -43,14 +43,14 @@ use Rattle.path_core.specs.declared.event.Place.TheVariants.{
 }
 use Rattle.path_core.specs.declared.event.Turn.TheVariants.{Flush as FlushTurn}
 use Rattle.path_core.specs.declared.note.EntryNote.{EntryNote}
-use Rattle.path_rule.specs.declared.trying.PathSeat.{PathSeat}
 use Rattle.path_rule.specs.declared.view.OwnStep.{OwnStep}
 use Rattle.path_rule.specs.declared.view.PathSize.{PathSize}
 use Rattle.path_rule.specs.declared.view.View.{View}
 use Rattle.path_rule.specs.Calls.{FoundSince}
 use Rattle.path_rule.specs.Finds.{Finds}
-use Rattle.path_rule.specs.Members.{view_of}
 use Rattle.path_rule.proofs.seats.Answering.{found_after}
+use Rattle.path_table.specs.declared.trying.PathSeat.{PathSeat}
+use Rattle.path_table.specs.Members.{view_of}
 use Rattle.write_path.specs.declared.flush.Flush.{Flush}
 use Rattle.write_path.specs.declared.flush.Flush.TheVariants as flush
 use Rattle.write_path.specs.declared.switch.Row.{Row}
@@ -59,7 +59,7 @@ use Rattle.write_path.specs.declared.switch.Row.TheVariants.{
   Memtables,
   WriteGroups,
 }
-use Rattle.write_path.specs.ClosedFiles.{HasFlushed}
+use Rattle.write_path.specs.ClosedFiles.{HasRetired}
 use Rattle.write_path.specs.Ends.{writes_of}
 use Rattle.write_path.specs.Flushed.{Flushes, opened_by}
 use Rattle.write_path.specs.Grown.{HasGrown}
@@ -157,7 +157,7 @@ tried w t v after flush.OutOfMemory tally now F none most some done =
 
 -- where all of a seat's writes are flushed of a table
 none_left : (most w t key : ℕ) (trail : List OwnStep)
-    → IsPaid most w t (reverse (writes_of trail)) trail → HasFlushed (record { 0 = t }) key trail
+    → IsPaid most w t (reverse (writes_of trail)) trail → HasRetired (record { 0 = t }) key trail
     → ((n : EntryNote) → Contains (writes_of trail) n → n.end.0 ≤ key)
     → IsTallied most w t 0 (reverse (writes_of trail)) trail
 none_left most w t key trail P F up = let writes = writes_of trail in record {

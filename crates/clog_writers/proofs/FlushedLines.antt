@@ -39,7 +39,7 @@ use Rattle.clog_applied.proofs.Lists.{from_filter, sum_of_map}
 use Rattle.path_core.specs.declared.note.EntryNote.{EntryNote}
 use Rattle.path_core.specs.History.{IsHistory}
 use Rattle.path_core.specs.Keeper.{Holding, IsFiledIn}
-use Rattle.clog_store.specs.OnDisk.{file_on}
+use Rattle.clog_segments.specs.OnDisk.{file_on}
 use Rattle.clog_layout.specs.Logged.{AreNotesOf, IsNoteOf}
 use Rattle.clog_layout.proofs.Lines.{is_position, touches_it}
 use Rattle.clog_closing.proofs.Tables.{below_from, note_of_line, up_to_from}

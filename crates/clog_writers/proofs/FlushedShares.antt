@@ -32,10 +32,10 @@ use Rattle.clog_applied.proofs.Lists.{from_filter}
 use Rattle.path_core.specs.declared.note.EntryNote.{EntryNote}
 use Rattle.path_core.specs.Keeper.{Holding, IsFiledIn}
 use Rattle.path_core.specs.Parts.{touches}
-use Rattle.path_rule.specs.declared.trying.PathSeat.{PathSeat}
 use Rattle.path_rule.specs.declared.view.OwnStep.{OwnStep}
 use Rattle.path_rule.specs.declared.view.PathSize.{PathSize}
-use Rattle.path_rule.specs.Members.{view_of}
+use Rattle.path_table.specs.declared.trying.PathSeat.{PathSeat}
+use Rattle.path_table.specs.Members.{view_of}
 use Rattle.write_path.specs.Closed.{IsOutcome}
 use Rattle.write_path.specs.ClosedFiles.{CoversFlushed}
 use Rattle.clog_writers.specs.Crews.{HaveEnded}

@@ -47,7 +47,7 @@ use Rattle.clog_applied.specs.History.{
 }
 use Rattle.clog_applied.specs.Printed.{number_of}
 use Rattle.clog_applied.proofs.Lists.{from_filter, in_filter, kept_one, left_one}
-use Rattle.clog_store.specs.Notes.{payload_in}
+use Rattle.clog_segments.specs.Notes.{payload_in}
 use Rattle.path_core.specs.declared.note.EntryNote.{EntryNote}
 use Rattle.path_core.specs.History.{IsHistory}
 use Rattle.clog_layout.specs.Logged.{AreNotesOf, IsNoteOf}

@@ -1,8 +1,8 @@
 -- A seat keeps its list over one call, and over a further one.
 use Rattle.std.proofs.Common.{◌≡◌, [], refl, ◌∙◌}
 use Rattle.atomic_table.specs.Seated.{TableId}
-use Rattle.path_rule.specs.declared.table.Member.{Member}
 use Rattle.path_rule.specs.declared.view.PathSize.{PathSize}
+use Rattle.path_table.specs.declared.table.Member.{Member}
 use Rattle.write_path.specs.Commits.{KeepsList}
 use Rattle.write_path.proofs.Growing.{both}
 

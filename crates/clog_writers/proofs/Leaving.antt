@@ -35,10 +35,10 @@ use Rattle.sync_core.specs.declared.SyncCore.TheVariants.{Batch}
 use Rattle.path_core.specs.declared.note.EntryNote.{EntryNote}
 use Rattle.path_core.specs.History.{IsHistory}
 use Rattle.path_core.specs.Keeper.{Holding}
-use Rattle.clog_store.specs.NoteLog.{IsNoteLog}
-use Rattle.clog_store.specs.OnDisk.{file_on}
-use Rattle.clog_store.specs.StoreFolder.{Deeds, IsSound, StoreLog, log_of}
-use Rattle.clog_store.specs.StoreState.{
+use Rattle.clog_segments.specs.NoteLog.{IsNoteLog}
+use Rattle.clog_segments.specs.OnDisk.{file_on}
+use Rattle.clog_segments.specs.StoreFolder.{Deeds, IsSound, StoreLog, log_of}
+use Rattle.clog_segments.specs.StoreState.{
   HasOrdered,
   HoldsIt,
   StoreState,
@@ -66,7 +66,7 @@ use Rattle.write_path.proofs.NonePassed.{begins_first}
 use Rattle.clog_writers.specs.Logged.{HaveFlushedShares, HoldShares, is_note_of}
 use Rattle.clog_writers.specs.Placed.{AreAtTheirLines}
 use Rattle.clog_writers.specs.Shares.{AreWritesOf}
-use Rattle.clog_writers.specs.Written.{BeginsIn, IsAskedBy, TellsWrittenShares}
+use Rattle.clog_writers.specs.Written.{BeginsIn, AsksFor, TellsWrittenShares}
 use Rattle.clog_writers.proofs.FlushedLines.{has_flushed}
 use Rattle.clog_writers.proofs.Histories.{
   AreReceiptsFrom,
@@ -166,7 +166,7 @@ module _ {D : Type 0} (files : D → Option Files) (changes : D → Option (List
     pub begun : is_some flush ≡ false → HasBegun Held (synced_to b.notes.logged)
 
   module _ (options : ApplyOptions) (mode : SyncCore) (flush : Option ℕ) (drain : Bool)
-      (asked : IsAskedBy options sizes mode flush b.archives drain)
+      (asked : AsksFor options sizes mode flush b.archives drain)
       (done : IsDone flush drain) where
     -- where nothing is flushed it has done nothing
     no_deeds : flushes options ≡ false → HasNoDeeds Held

@@ -24,10 +24,10 @@ use Rattle.clog_disk.specs.Images.{IsLater}
 use Rattle.clog_mutation.specs.declared.mutation.Mutation.{Mutation}
 use Rattle.clog_crash.specs.Readings.{Reading}
 use Rattle.clog_crash.specs.Sections.{IsStored}
-use Rattle.clog_store.specs.Grows.{segments_with}
-use Rattle.clog_store.specs.Life.{LastsNow, ShownSince, lasting_in}
-use Rattle.clog_store.specs.NoteLog.{IsNoteLog, NoteState}
-use Rattle.clog_store.specs.StoreState.{StoreState}
+use Rattle.clog_segments.specs.Grows.{segments_with}
+use Rattle.clog_segments.specs.Life.{LastsNow, ShownSince, lasting_in}
+use Rattle.clog_segments.specs.NoteLog.{IsNoteLog, NoteState}
+use Rattle.clog_segments.specs.StoreState.{StoreState}
 use Rattle.clog_closing.specs.Written.{GoesBeyond, HasBrought}
 use Rattle.clog_writers.specs.declared.fault.WriteFault.{WriteFault}
 use Rattle.clog_writers.specs.Left.{LeavesShares, least_of}

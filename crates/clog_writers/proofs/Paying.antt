@@ -28,10 +28,10 @@ use Rattle.clog_base.specs.declared.sizes.Sizes.{Sizes}
 use Rattle.clog_applied.specs.Flushed.{updates_in}
 use Rattle.clog_applied.specs.History.{Line}
 use Rattle.path_core.specs.declared.note.EntryNote.{EntryNote}
-use Rattle.path_rule.specs.declared.trying.PathSeat.{PathSeat}
 use Rattle.path_rule.specs.declared.view.OwnStep.{OwnStep}
 use Rattle.path_rule.specs.declared.view.View.{View}
-use Rattle.path_rule.specs.Members.{view_of}
+use Rattle.path_table.specs.declared.trying.PathSeat.{PathSeat}
+use Rattle.path_table.specs.Members.{view_of}
 use Rattle.write_path.specs.declared.flush.Flush.{Flush}
 use Rattle.write_path.specs.declared.prepared.Prepared.{Prepared}
 use Rattle.write_path.specs.Ends.{writes_of}

@@ -39,9 +39,9 @@ use Rattle.clog_mutation.specs.declared.mutation.Mutation.{Mutation}
 use Rattle.path_core.specs.declared.note.EntryNote.{EntryNote}
 use Rattle.path_core.specs.Keeper.{Holding, IsFresh, PutFile}
 use Rattle.path_rule.specs.declared.lasting.Lasting.{Lasting}
-use Rattle.path_rule.specs.declared.trying.PathSeat.{PathSeat}
 use Rattle.path_rule.specs.declared.view.PathSize.{PathSize}
 use Rattle.path_rule.specs.Limits.{most_memtables}
+use Rattle.path_table.specs.declared.trying.PathSeat.{PathSeat}
 use Rattle.clog_closing.specs.Beside.{HasGoodDeeds}
 use Rattle.clog_closing.specs.Drained.{HasNoDeeds}
 use Rattle.clog_closing.proofs.Good.{good_of_none}

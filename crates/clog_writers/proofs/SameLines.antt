@@ -6,7 +6,7 @@ use Rattle.clog_mutation.specs.Payload.{payload_of}
 use Rattle.clog_mutation.proofs.Decoding.{one_mutation}
 use Rattle.clog_applied.specs.History.{Line}
 use Rattle.clog_notes.specs.Entries.{entry_of}
-use Rattle.clog_store.specs.Notes.{payload_in}
+use Rattle.clog_segments.specs.Notes.{payload_in}
 use Rattle.path_core.specs.declared.note.EntryNote.{EntryNote}
 use Rattle.clog_closing.proofs.Logs.{payload_is}
 use Rattle.clog_writers.specs.Shares.{AreWritesOf, IsWriteOf}

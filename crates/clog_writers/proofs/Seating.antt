@@ -39,9 +39,9 @@ use Rattle.atomic_table.specs.Seated.{TableId}
 use Rattle.clog_base.specs.declared.sizes.Sizes.{Sizes}
 use Rattle.clog_mutation.specs.declared.mutation.Mutation.{Mutation}
 use Rattle.clog_applied.specs.History.{Line, share_of}
-use Rattle.path_rule.specs.declared.trying.PathSeat.{PathSeat}
 use Rattle.path_rule.specs.declared.view.PathSize.{PathSize}
 use Rattle.path_rule.specs.declared.view.View.{View}
+use Rattle.path_table.specs.declared.trying.PathSeat.{PathSeat}
 use Rattle.write_path.specs.Opened.{AreNew, IsNewSeat, numbers_of}
 use Rattle.write_path.proofs.Handing.{range_more}
 use Rattle.clog_writers.specs.declared.worker.Worker.{Worker}

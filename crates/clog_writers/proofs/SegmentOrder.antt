@@ -26,7 +26,7 @@ use Rattle.clog_scan.specs.Segment.{Entry}
 use Rattle.clog_crash.specs.Log.{Write}
 use Rattle.clog_crash.specs.Runs.{Placed, placed, placed_of}
 use Rattle.clog_applied.specs.History.{LoggedLine, entry_of}
-use Rattle.clog_store.specs.Grows.{IsLower}
+use Rattle.clog_segments.specs.Grows.{IsLower}
 use Rattle.clog_layout.proofs.Pairs.{pairs_cons, pairs_none}
 use Rattle.path_core.proofs.lists.Heads.{ahead, behind}
 use Rattle.clog_writers.specs.Left.{SaysShares}

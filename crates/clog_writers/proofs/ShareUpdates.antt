@@ -36,9 +36,9 @@ use Rattle.clog_mutation.specs.declared.mutation.Mutation.{Mutation}
 use Rattle.clog_applied.specs.Flushed.{updates_in, updates_of}
 use Rattle.clog_applied.specs.History.{Line, is_for, numbered}
 use Rattle.clog_applied.proofs.Lists.{kept_one, left_one}
-use Rattle.path_rule.specs.declared.trying.PathSeat.{PathSeat}
 use Rattle.path_rule.specs.declared.view.PathSize.{PathSize}
-use Rattle.path_rule.specs.Members.{view_of}
+use Rattle.path_table.specs.declared.trying.PathSeat.{PathSeat}
+use Rattle.path_table.specs.Members.{view_of}
 use Rattle.clog_writers.specs.declared.fault.WriteFault.{WriteFault}
 use Rattle.clog_writers.specs.Crews.{HaveEnded}
 use Rattle.write_path.specs.Closed.{all_opened}

@@ -45,14 +45,14 @@ use Rattle.clog_base.specs.declared.sizes.Sizes.{Sizes}
 use Rattle.clog_applied.specs.Flushed.{updates_in}
 use Rattle.clog_applied.specs.History.{Line}
 use Rattle.path_core.specs.declared.note.EntryNote.{EntryNote}
-use Rattle.path_rule.specs.declared.trying.PathSeat.{PathSeat}
 use Rattle.path_rule.specs.declared.view.OwnStep.{OwnStep}
 use Rattle.path_rule.specs.declared.view.PathSize.{PathSize}
 use Rattle.path_rule.specs.declared.view.View.{View}
-use Rattle.path_rule.specs.Members.{view_of}
+use Rattle.path_table.specs.declared.trying.PathSeat.{PathSeat}
+use Rattle.path_table.specs.Members.{view_of}
 use Rattle.write_path.specs.declared.flush.Flush.{Flush}
 use Rattle.write_path.specs.declared.prepared.Prepared.{Prepared}
-use Rattle.write_path.specs.ClosedFiles.{HasFlushed}
+use Rattle.write_path.specs.ClosedFiles.{HasRetired}
 use Rattle.write_path.specs.Commits.{KeepsList}
 use Rattle.write_path.specs.Ends.{writes_of}
 use Rattle.write_path.specs.Flushed.{Flushes}
@@ -94,7 +94,7 @@ over_on : (t : ℕ) (early : List EntryNote) (before after : List OwnStep) → H
 over_on t early before after G (inl none) = inl none
 over_on t early before after G (inr F) = inr (record {
   key = F.key;
-  flushed = subst (λ (l : List OwnStep). HasFlushed (record { 0 = t }) F.key l) (sym G.is)
+  flushed = subst (λ (l : List OwnStep). HasRetired (record { 0 = t }) F.key l) (sym G.is)
       (still_flushed (record { 0 = t }) F.key G.newer before F.flushed);
   covers = F.covers;
 })

@@ -29,12 +29,12 @@ use Rattle.path_core.specs.declared.event.Place.TheVariants.{CursorWord}
 use Rattle.path_core.specs.declared.note.EntryNote.{EntryNote}
 use Rattle.path_rule.specs.declared.answer.SyncAnswer.{SyncAnswer}
 use Rattle.path_rule.specs.declared.answer.SyncAnswer.TheVariants as sync
-use Rattle.path_rule.specs.declared.trying.PathSeat.{PathSeat}
 use Rattle.path_rule.specs.declared.view.OwnStep.{OwnStep}
 use Rattle.path_rule.specs.declared.view.PathSize.{PathSize}
 use Rattle.path_rule.specs.declared.view.View.{View}
-use Rattle.path_rule.specs.Members.{view_of}
 use Rattle.path_rule.specs.Rule.{event_of}
+use Rattle.path_table.specs.declared.trying.PathSeat.{PathSeat}
+use Rattle.path_table.specs.Members.{view_of}
 use Rattle.write_path.specs.declared.commit.Commit.{Commit}
 use Rattle.write_path.specs.declared.commit.Commit.TheVariants.{
   Logged,

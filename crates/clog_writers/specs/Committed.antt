@@ -3,9 +3,9 @@ use Rattle.std.specs.Prelude.{◌≡◌, ℕ, List, Option, None}
 use Rattle.atomic_table.specs.Seated.{TableId}
 use Rattle.clog_base.specs.declared.sizes.Sizes.{Sizes}
 use Rattle.clog_applied.specs.History.{Line}
-use Rattle.path_rule.specs.declared.trying.PathSeat.{PathSeat}
 use Rattle.path_rule.specs.declared.view.PathSize.{PathSize}
-use Rattle.path_rule.specs.Members.{view_of}
+use Rattle.path_table.specs.declared.trying.PathSeat.{PathSeat}
+use Rattle.path_table.specs.Members.{view_of}
 use Rattle.sync_core.specs.declared.SyncCore.{SyncCore}
 use Rattle.sync_core.specs.declared.SyncCore.TheVariants.{Batch, Periodic}
 use Rattle.write_path.specs.declared.prepared.Prepared.{Prepared}

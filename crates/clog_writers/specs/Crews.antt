@@ -25,11 +25,11 @@ use Rattle.clog_applied.specs.History.{Line, share_of}
 use Rattle.op_core.specs.declared.count.Order.TheVariants.{Append, Write}
 use Rattle.path_core.specs.declared.event.Cursor.TheVariants.{Stopped as StoppedCursor}
 use Rattle.path_core.specs.declared.event.Place.TheVariants.{Current, CursorWord, Newest}
-use Rattle.path_rule.specs.declared.trying.PathSeat.{PathSeat}
 use Rattle.path_rule.specs.declared.view.PathSize.{PathSize}
 use Rattle.path_rule.specs.Finds.{Finds}
 use Rattle.path_rule.specs.Layout.{group_rows, memtable_rows}
-use Rattle.path_rule.specs.Members.{IsOf, view_of}
+use Rattle.path_table.specs.declared.trying.PathSeat.{PathSeat}
+use Rattle.path_table.specs.Members.{IsOf, view_of}
 use Rattle.write_path.specs.declared.switch.Row.{Row}
 use Rattle.write_path.specs.declared.switch.Row.TheVariants.{
   AppendGroups,

@@ -26,10 +26,10 @@ use Rattle.clog_mutation.specs.declared.mutation.Update.{Update}
 use Rattle.clog_applied.specs.Flushed.{is_update_of, updates_in}
 use Rattle.clog_applied.specs.History.{Line}
 use Rattle.path_core.specs.declared.note.EntryNote.{EntryNote}
-use Rattle.path_rule.specs.declared.trying.PathSeat.{PathSeat}
 use Rattle.path_rule.specs.declared.view.OwnStep.{OwnStep}
-use Rattle.path_rule.specs.Members.{view_of}
-use Rattle.write_path.specs.ClosedFiles.{HasFlushed}
+use Rattle.path_table.specs.declared.trying.PathSeat.{PathSeat}
+use Rattle.path_table.specs.Members.{view_of}
+use Rattle.write_path.specs.ClosedFiles.{HasRetired}
 use Rattle.write_path.specs.Ends.{writes_of}
 use Rattle.write_path.specs.Opens.{opens}
 use Rattle.clog_writers.specs.declared.tally.LineCounts.{LineCounts}
@@ -79,7 +79,7 @@ with_counts counts (Some c) = counts ++ c ∷ []
 -- at or above the end of each is retired.
 pub record IsFlushedOver (t : ℕ) (writes : List EntryNote) (trail : List OwnStep) : Type 0 where
   pub key : ℕ
-  pub flushed : HasFlushed (record { 0 = t }) key trail
+  pub flushed : HasRetired (record { 0 = t }) key trail
   pub covers : (n : EntryNote) → Contains writes n → n.end.0 ≤ key
 
 -- A writer's writes, the oldest first, are those of lines. It knows that the first of them are

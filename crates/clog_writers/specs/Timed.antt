@@ -6,10 +6,10 @@ use Rattle.std.specs.List.{Contains}
 use Rattle.sync_core.specs.declared.SyncCore.{SyncCore}
 use Rattle.sync_core.specs.Due.{IsDue}
 use Rattle.path_core.specs.declared.note.EntryNote.{EntryNote}
-use Rattle.path_rule.specs.declared.trying.PathSeat.{PathSeat}
 use Rattle.path_rule.specs.declared.view.OwnStep.{OwnStep}
-use Rattle.path_rule.specs.Members.{part_of, view_of}
 use Rattle.path_rule.specs.Rule.{event_of}
+use Rattle.path_table.specs.declared.trying.PathSeat.{PathSeat}
+use Rattle.path_table.specs.Members.{part_of, view_of}
 use Rattle.write_path.specs.Commits.{WritesEndBelow}
 use Rattle.write_path.specs.Ends.{IsLast, writes_of}
 use Rattle.write_path.specs.Grown.{HasGrown}

@@ -44,10 +44,10 @@ use Rattle.clog_writers.specs.declared.fault.WriteFault.TheVariants.{OutOfMemory
 use Rattle.clog_writers.specs.Logged.{HoldShares}
 use Rattle.clog_writers.specs.Placed.{AreAtTheirLines}
 
--- So many writers log all lines in this mode, and flush at this number of updates or never; the log
--- is synced at the end. Behind it all is drained or nothing, and what is dropped gets its archive
--- name or not.
-pub record IsAskedBy (options : ApplyOptions) (sizes : Sizes) (mode : SyncCore) (flush : Option ℕ)
+-- The options ask that so many writers log all lines in this mode, and flush at this number of
+-- updates or never; the log is synced at the end. Behind it all is drained or nothing, and what is
+-- dropped gets its archive name or not.
+pub record AsksFor (options : ApplyOptions) (sizes : Sizes) (mode : SyncCore) (flush : Option ℕ)
     (archives drain : Bool) : Type 0 where
   pub writers : options.writers ≡ sizes.writers
   pub sync : options.sync ≡ mode

@@ -26,8 +26,8 @@ ghost use Rattle.path_core.specs.Keeper.{upper_from};
 ghost use Rattle.path_rule.specs.Limits.{most_memtables};
 ghost use Rattle.clog_memtable.specs.Filling.{AreWhole};
 ghost use Rattle.clog_memtable.specs.Touched.{AreMemtablesOf};
-ghost use Rattle.clog_store.specs.NoteLog.{IsNoteLog};
-ghost use Rattle.clog_store.specs.StoreState.{holding_of};
+ghost use Rattle.clog_segments.specs.NoteLog.{IsNoteLog};
+ghost use Rattle.clog_segments.specs.StoreState.{holding_of};
 ghost use Rattle.clog_writers.specs.declared.fault.WriteFault.TheVariants.{
   Rows,
   Spent,

@@ -5,7 +5,7 @@ ghost use Rattle.clog_spec.specs.Sizes.{most_tables};
 ghost use Rattle.clog_writers.specs.Crews.{KnowsWhy, MayLack};
 ghost use Rattle.clog_writers.specs.Tallied.{ArePaid, HasFlushedAll};
 ghost use Rattle.clog_writers.specs.Tallies.{MayTally, Tallies, limit_of};
-ghost use Rattle.path_rule.specs.Members.{IsOf, view_of};
+ghost use Rattle.path_table.specs.Members.{IsOf, view_of};
 ghost use Rattle.write_path.specs.Commits.{KeepsList};
 
 use crate::fault::WriteFault;

@@ -31,7 +31,7 @@ ghost use Rattle.clog_writers.specs.Tallies.{
   Tallies,
   limit_of,
 };
-ghost use Rattle.path_rule.specs.Members.{IsOf, view_of};
+ghost use Rattle.path_table.specs.Members.{IsOf, view_of};
 ghost use Rattle.write_path.specs.Commits.{KeepsList};
 
 use crate::fault::{WriteFault, refusal_by};

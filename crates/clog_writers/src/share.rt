@@ -10,7 +10,7 @@ ghost use Rattle.clog_writers.specs.Shares.{ArePrepared};
 ghost use Rattle.clog_writers.specs.Tallied.{AreCountedFor, HasFlushedAll};
 ghost use Rattle.clog_writers.specs.Tallies.{MayTally, limit_of};
 ghost use Rattle.clog_writers.specs.Timed.{TimesShare};
-ghost use Rattle.path_rule.specs.Members.{IsOf, view_of};
+ghost use Rattle.path_table.specs.Members.{IsOf, view_of};
 ghost use Rattle.sync_core.specs.declared.SyncCore.TheVariants.{Batch, Periodic};
 
 use crate::fault::WriteFault;

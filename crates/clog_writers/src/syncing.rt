@@ -6,7 +6,7 @@ ghost use Rattle.std.specs.Prelude.{◌≡◌, ℕ, MatchOption, None};
 ghost use Rattle.clog_writers.specs.Crews.{KnowsWhy, MayLack};
 ghost use Rattle.clog_writers.specs.Tallied.{OpensNone};
 ghost use Rattle.clog_writers.specs.Timed.{HasNotSynced, KnowsSynced, SealsLast, SyncsWhenDue};
-ghost use Rattle.path_rule.specs.Members.{IsOf, view_of};
+ghost use Rattle.path_table.specs.Members.{IsOf, view_of};
 ghost use Rattle.sync_core.specs.Due.{IsDue};
 ghost use Rattle.sync_core.specs.declared.SyncCore.TheVariants.{Batch, Periodic};
 ghost use Rattle.write_path.specs.Commits.{KeepsList};

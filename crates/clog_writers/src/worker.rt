@@ -10,7 +10,7 @@ ghost use Rattle.clog_writers.specs.Tallied.{ArePaid, IsCountedFor, OpensNone};
 ghost use Rattle.clog_writers.specs.Tallies.{MayTally, MayTry, limit_of};
 ghost use Rattle.clog_writers.specs.Timed.{TimesWrite};
 ghost use Rattle.clog_writers.specs.Shares.{AddsWrite, MayAddWrite, fault_of, refusal_in};
-ghost use Rattle.path_rule.specs.Members.{IsOf, view_of};
+ghost use Rattle.path_table.specs.Members.{IsOf, view_of};
 ghost use Rattle.sync_core.specs.declared.SyncCore.TheVariants.{Batch, Periodic};
 ghost use Rattle.write_path.specs.Grown.{HasGrown};
 ghost use Rattle.write_path.specs.Tries.{Stays};

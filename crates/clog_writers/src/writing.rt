@@ -27,8 +27,8 @@ ghost use Rattle.clog_disk.specs.Images.{IsLater};
 ghost use Rattle.clog_io.specs.Causes.{Rose};
 ghost use Rattle.clog_mutation.specs.declared.mutation.Mutation.{Mutation as MutationOf};
 ghost use Rattle.clog_words.specs.declared.request.ApplyOptions.{ApplyOptions};
-ghost use Rattle.clog_store.specs.StoreFailed.{AllStay};
-ghost use Rattle.clog_store.specs.StoreState.{store_over};
+ghost use Rattle.clog_segments.specs.StoreFailed.{AllStay};
+ghost use Rattle.clog_segments.specs.StoreState.{store_over};
 ghost use Rattle.clog_writers.specs.declared.fault.WriteFault.TheVariants.{
   Rows,
   Spent,
@@ -41,7 +41,7 @@ ghost use Rattle.clog_writers.specs.Planned.{IsPlanFor};
 ghost use Rattle.clog_writers.specs.Written.{
   HasReceipts,
   HasShareCause,
-  IsAskedBy,
+  AsksFor,
   TellsWrittenShares,
 };
 
@@ -146,7 +146,7 @@ pub fn write_plan<R: Threads + Wait + Sync, D: Disk + Send + Drop, G: Gate + Syn
     requires plan { (mutations : List MutationOf) × IsPlanFor sizes flush_at mutations plan }
     ensures written { (mutations : List MutationOf) (options : ApplyOptions) (opened : Files)
         (made : List Change) → IsPlanFor sizes flush_at mutations plan
-        → IsAskedBy options store.notes.sizes syncing.mode flush_at store.archives drain
+        → AsksFor options store.notes.sizes syncing.mode flush_at store.archives drain
         → D.files store.notes.log.disk ≡ Some opened → D.changes store.notes.log.disk ≡ Some made
         → IfOk result.1 (λ receipts. TellsWrittenShares options store.notes.base opened made
         (D.files result.0) (D.changes result.0) mutations receipts.items) }

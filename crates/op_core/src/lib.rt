@@ -4,8 +4,6 @@
 mod chain;
 mod count;
 mod orders;
-#[cfg(test)]
-mod tests;
 
 pub use chain::is_passed;
 pub use count::{GroupFault, Order, Tally};

@@ -8,14 +8,11 @@ pub mod Staying
 pub mod Untaken
 pub mod Merging
 pub mod FirstWords
-pub mod LastBounds
-pub mod Ends
 pub mod HolderLooks
 pub mod RoundsGo
 pub mod Answering
 pub mod Reaching
 pub mod SyncTaken
-pub mod Marking
 pub mod Sweeping
 pub mod HolderIssues
 pub mod MayGives
@@ -23,8 +20,6 @@ pub mod Placing
 pub mod Accepting
 pub mod SwitchStages
 pub mod OldestBelow
-pub mod OldestMoves
-pub mod BarrierIssues
 pub mod BarrierBelow
 pub mod BarredTables
 pub mod LeastStays

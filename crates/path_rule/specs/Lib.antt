@@ -29,17 +29,13 @@ pub mod Desks
 pub mod Calls
 pub mod Switches
 pub mod SyncEnd
-pub mod Members
 pub mod Applying
-pub mod Passes
 pub mod Rounds
 pub mod Sweeps
 pub mod SyncAnswers
 pub mod Reached
-pub mod Marks
 pub mod Switched
 pub mod Sharing
-pub mod ClosedBounds
 pub mod FirstBoxes
 pub mod Stopped
 pub mod InBoxes

@@ -6,7 +6,7 @@ use path_core::Keeper;
 use std::marker::PhantomData;
 
 /// A look at the synced key, before a table file is put.
-pub(crate) struct LookFiled<K> {
+pub struct LookFiled<K> {
     keeper: PhantomData<K>,
 }
 
@@ -17,7 +17,7 @@ impl<K> Play<Slot<K>, View> for LookFiled<K> {
 }
 
 /// A memtable is retired with its table file.
-pub(crate) struct RetireFiled<K> {
+pub struct RetireFiled<K> {
     keeper: PhantomData<K>,
 }
 
@@ -29,7 +29,7 @@ impl<K: Keeper> Play<Slot<K>, View> for RetireFiled<K> {
 }
 
 /// A look, after a file was refused or segments were dropped.
-pub(crate) struct NoteFiling<K> {
+pub struct NoteFiling<K> {
     keeper: PhantomData<K>,
 }
 
@@ -41,7 +41,7 @@ impl<K: Keeper> Play<Slot<K>, View> for NoteFiling<K> {
 }
 
 /// The log is stopped, since the keeper has stopped as it put a file or dropped segments.
-pub(crate) struct StopFiling<K> {
+pub struct StopFiling<K> {
     keeper: PhantomData<K>,
 }
 

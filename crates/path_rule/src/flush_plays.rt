@@ -5,7 +5,7 @@ use atomic_table::Play;
 use std::marker::PhantomData;
 
 /// The first memtable of a table is read from now on.
-pub(crate) struct BeginFirst<K> {
+pub struct BeginFirst<K> {
     keeper: PhantomData<K>,
 }
 
@@ -16,7 +16,7 @@ impl<K> Play<Slot<K>, View> for BeginFirst<K> {
 }
 
 /// The memtable behind a retired one is.
-pub(crate) struct BeginNext<K> {
+pub struct BeginNext<K> {
     keeper: PhantomData<K>,
 }
 
@@ -27,7 +27,7 @@ impl<K> Play<Slot<K>, View> for BeginNext<K> {
 }
 
 /// The box of the next seat is taken.
-pub(crate) struct TakeRead<K> {
+pub struct TakeRead<K> {
     keeper: PhantomData<K>,
 }
 
@@ -38,7 +38,7 @@ impl<K> Play<Slot<K>, View> for TakeRead<K> {
 }
 
 /// It is given back, without what a retired memtable left there.
-pub(crate) struct GiveRead<K> {
+pub struct GiveRead<K> {
     keeper: PhantomData<K>,
 }
 
@@ -49,7 +49,7 @@ impl<K> Play<Slot<K>, View> for GiveRead<K> {
 }
 
 /// No memtable is read any more.
-pub(crate) struct EndRead<K> {
+pub struct EndRead<K> {
     keeper: PhantomData<K>,
 }
 
@@ -60,7 +60,7 @@ impl<K> Play<Slot<K>, View> for EndRead<K> {
 }
 
 /// A memtable that holds nothing is retired.
-pub(crate) struct RetireEmpty<K> {
+pub struct RetireEmpty<K> {
     keeper: PhantomData<K>,
 }
 

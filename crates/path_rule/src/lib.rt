@@ -1,62 +1,27 @@
-//! The write path over a table of words and boxes that threads share. Each atomic step of a seat on
-//! one word is one step of the machine without threads (`path_core`), made by the seat of the same
-//! number; so under every schedule there is one run of the machine that the words, the boxes and
-//! what the seats know show, and its law holds at each moment.
+//! The rule of a write path over a table of words and boxes that threads share. Each atomic step of
+//! a seat on one word is one step of the machine without threads (`path_core`), made by the seat of
+//! the same number; so under every schedule there is one run of the machine that the words, the
+//! boxes and what the seats know show, and its law holds at each moment.
 //!
-//! `PathTable` has a method for each kind of step, and `Member` is the seat that makes them.
+//! Nothing here runs: `path_table` makes the steps, each as a play that tells what it has done.
 #![tactic(auto)]
 
-mod accepting;
-mod advancing;
 mod answer;
-mod append_barrier;
-mod appending;
-mod applying;
-mod bounds;
-mod claiming;
-mod closing;
-mod desk;
-mod ending;
-mod filing;
 mod filing_plays;
 mod flush_plays;
-mod flush_reading;
-mod gathering;
 mod lasting;
 mod laws;
-mod lending;
-mod looking;
-mod marker_keys;
-mod marking;
-mod opening;
 mod plays;
-mod publishing;
-mod read_bounds;
-mod round_ends;
-mod rounding;
 mod rule;
-mod seeking;
 mod slot;
-mod sweeping;
-mod switching;
-mod syncing;
-mod table;
 mod table_plays;
-mod table_turn;
 mod trail_laws;
-mod trying;
-mod turn;
 mod turn_plays;
-mod unused;
 mod view;
-mod waiting;
-mod words;
-mod write_barrier;
-mod writing;
 
-pub use advancing::Advance;
 pub use answer::SyncAnswer;
-pub use bounds::TableBounds;
+pub use filing_plays::{LookFiled, NoteFiling, RetireFiled, StopFiling};
+pub use flush_plays::{BeginFirst, BeginNext, EndRead, GiveRead, RetireEmpty, TakeRead};
 pub use lasting::{Beside, Filed, Lasting, PutTable};
 pub use laws::{
     a_stopped_log_takes_nothing, a_stopped_log_tells_a_count_that_has_risen,
@@ -67,11 +32,19 @@ pub use laws::{
     what_was_placed_lies_in_memtables, what_was_seen_is_the_memtables_interval,
     without_files_nothing_goes,
 };
-pub use opening::open;
+pub use plays::{
+    ClaimAt, Deal, DepositIn, FinishIn, GiveMemtable, JoinIn, LookAt, Merge, RegisterIn, StopIn,
+    TakeMemtable, WithdrawFrom,
+};
 pub use rule::PathRule;
 pub use slot::{Desk, Slot};
-pub use table::{Member, Opener, PathTable};
+pub use table_plays::{
+    FinaliseMemtable, GiveFlush, MarkMemtable, OpenMemtable, RaiseBound, TakeFlush,
+};
 pub use trail_laws::what_a_trail_finds_of_memtables;
-pub use trying::{Begun, PathSeat, Seen};
+pub use turn_plays::{
+    AdvanceAppend, AdvanceWrite, ClaimMarker, ExpireAppend, ExpireWrite, GatherBox, GiveBack,
+    GiveSync, KeepRefused, LookLent, MoveAppend, MoveWrite, OpenAppend, OpenWrite, PutStopped,
+    PutSynced, TakeSync,
+};
 pub use view::{FlushRead, Hands, OwnStep, PathKey, PathSize, Progress, Returned, Role, View};
-pub use waiting::Holder;

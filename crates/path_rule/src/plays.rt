@@ -7,7 +7,7 @@ use atomic_table::{Join, Play, Split};
 use std::marker::PhantomData;
 
 /// A look at a word.
-pub(crate) struct LookAt<K> {
+pub struct LookAt<K> {
     keeper: PhantomData<K>,
 }
 
@@ -18,7 +18,7 @@ impl<K> Play<Slot<K>, View> for LookAt<K> {
 }
 
 /// A seat joins a group of the write order.
-pub(crate) struct RegisterIn<K> {
+pub struct RegisterIn<K> {
     keeper: PhantomData<K>,
 }
 
@@ -29,7 +29,7 @@ impl<K> Play<Slot<K>, View> for RegisterIn<K> {
 }
 
 /// It leaves that group.
-pub(crate) struct StopIn<K> {
+pub struct StopIn<K> {
     keeper: PhantomData<K>,
 }
 
@@ -40,7 +40,7 @@ impl<K> Play<Slot<K>, View> for StopIn<K> {
 }
 
 /// It leaves it once its write was accepted.
-pub(crate) struct FinishIn<K> {
+pub struct FinishIn<K> {
     keeper: PhantomData<K>,
 }
 
@@ -51,7 +51,7 @@ impl<K> Play<Slot<K>, View> for FinishIn<K> {
 }
 
 /// It joins a group of the append order, and takes its box.
-pub(crate) struct JoinIn<K> {
+pub struct JoinIn<K> {
     keeper: PhantomData<K>,
 }
 
@@ -62,7 +62,7 @@ impl<K> Play<Slot<K>, View> for JoinIn<K> {
 }
 
 /// It leaves that group, with nothing.
-pub(crate) struct WithdrawFrom<K> {
+pub struct WithdrawFrom<K> {
     keeper: PhantomData<K>,
 }
 
@@ -73,7 +73,7 @@ impl<K> Play<Slot<K>, View> for WithdrawFrom<K> {
 }
 
 /// It leaves it with a note.
-pub(crate) struct DepositIn<K> {
+pub struct DepositIn<K> {
     keeper: PhantomData<K>,
 }
 
@@ -84,7 +84,7 @@ impl<K> Play<Slot<K>, View> for DepositIn<K> {
 }
 
 /// It claims the range of an entry.
-pub(crate) struct ClaimAt<K> {
+pub struct ClaimAt<K> {
     keeper: PhantomData<K>,
 }
 
@@ -95,7 +95,7 @@ impl<K> Play<Slot<K>, View> for ClaimAt<K> {
 }
 
 /// It takes its box of a memtable.
-pub(crate) struct TakeMemtable<K> {
+pub struct TakeMemtable<K> {
     keeper: PhantomData<K>,
 }
 
@@ -106,7 +106,7 @@ impl<K> Play<Slot<K>, View> for TakeMemtable<K> {
 }
 
 /// It gives that box back, with its entry.
-pub(crate) struct GiveMemtable<K> {
+pub struct GiveMemtable<K> {
     keeper: PhantomData<K>,
 }
 
@@ -117,7 +117,7 @@ impl<K> Play<Slot<K>, View> for GiveMemtable<K> {
 }
 
 /// A seat is handed out.
-pub(crate) struct Deal;
+pub struct Deal;
 
 impl Split<View> for Deal {
     ghost use Rattle.path_rule.specs.Sharing.{handing, handed};
@@ -128,7 +128,7 @@ impl Split<View> for Deal {
 }
 
 /// A seat takes in another.
-pub(crate) struct Merge;
+pub struct Merge;
 
 impl Join<View> for Merge {
     ghost use Rattle.path_rule.specs.Sharing.{taking, spent};

@@ -5,7 +5,7 @@ use atomic_table::Play;
 use std::marker::PhantomData;
 
 /// A table's Flush turn is taken.
-pub(crate) struct TakeFlush<K> {
+pub struct TakeFlush<K> {
     keeper: PhantomData<K>,
 }
 
@@ -16,7 +16,7 @@ impl<K> Play<Slot<K>, View> for TakeFlush<K> {
 }
 
 /// It is given back.
-pub(crate) struct GiveFlush<K> {
+pub struct GiveFlush<K> {
     keeper: PhantomData<K>,
 }
 
@@ -27,7 +27,7 @@ impl<K> Play<Slot<K>, View> for GiveFlush<K> {
 }
 
 /// The bound of a memtable is raised.
-pub(crate) struct RaiseBound<K> {
+pub struct RaiseBound<K> {
     keeper: PhantomData<K>,
 }
 
@@ -38,7 +38,7 @@ impl<K> Play<Slot<K>, View> for RaiseBound<K> {
 }
 
 /// The next memtable of a table is made.
-pub(crate) struct OpenMemtable<K> {
+pub struct OpenMemtable<K> {
     keeper: PhantomData<K>,
 }
 
@@ -49,7 +49,7 @@ impl<K> Play<Slot<K>, View> for OpenMemtable<K> {
 }
 
 /// The one below it is marked.
-pub(crate) struct MarkMemtable<K> {
+pub struct MarkMemtable<K> {
     keeper: PhantomData<K>,
 }
 
@@ -60,7 +60,7 @@ impl<K> Play<Slot<K>, View> for MarkMemtable<K> {
 }
 
 /// A marked memtable is made final.
-pub(crate) struct FinaliseMemtable<K> {
+pub struct FinaliseMemtable<K> {
     keeper: PhantomData<K>,
 }
 

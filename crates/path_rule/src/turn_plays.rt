@@ -6,7 +6,7 @@ use path_core::Keeper;
 use std::marker::PhantomData;
 
 /// The Sync turn is given back.
-pub(crate) struct GiveSync<K> {
+pub struct GiveSync<K> {
     keeper: PhantomData<K>,
 }
 
@@ -17,7 +17,7 @@ impl<K> Play<Slot<K>, View> for GiveSync<K> {
 }
 
 /// The next group of the append order is the current one.
-pub(crate) struct MoveAppend<K> {
+pub struct MoveAppend<K> {
     keeper: PhantomData<K>,
 }
 
@@ -28,7 +28,7 @@ impl<K> Play<Slot<K>, View> for MoveAppend<K> {
 }
 
 /// The one before it expires.
-pub(crate) struct ExpireAppend<K> {
+pub struct ExpireAppend<K> {
     keeper: PhantomData<K>,
 }
 
@@ -39,7 +39,7 @@ impl<K> Play<Slot<K>, View> for ExpireAppend<K> {
 }
 
 /// The oldest group moves on.
-pub(crate) struct AdvanceAppend<K> {
+pub struct AdvanceAppend<K> {
     keeper: PhantomData<K>,
 }
 
@@ -50,7 +50,7 @@ impl<K> Play<Slot<K>, View> for AdvanceAppend<K> {
 }
 
 /// The box of another seat is taken.
-pub(crate) struct GatherBox<K> {
+pub struct GatherBox<K> {
     keeper: PhantomData<K>,
 }
 
@@ -61,7 +61,7 @@ impl<K> Play<Slot<K>, View> for GatherBox<K> {
 }
 
 /// That box is given back empty.
-pub(crate) struct GiveBack<K> {
+pub struct GiveBack<K> {
     keeper: PhantomData<K>,
 }
 
@@ -72,7 +72,7 @@ impl<K> Play<Slot<K>, View> for GiveBack<K> {
 }
 
 /// The Sync turn is taken.
-pub(crate) struct TakeSync<K> {
+pub struct TakeSync<K> {
     keeper: PhantomData<K>,
 }
 
@@ -84,7 +84,7 @@ impl<K: Keeper> Play<Slot<K>, View> for TakeSync<K> {
 }
 
 /// The next group of the write order is made.
-pub(crate) struct OpenWrite<K> {
+pub struct OpenWrite<K> {
     keeper: PhantomData<K>,
 }
 
@@ -95,7 +95,7 @@ impl<K> Play<Slot<K>, View> for OpenWrite<K> {
 }
 
 /// It is the current one.
-pub(crate) struct MoveWrite<K> {
+pub struct MoveWrite<K> {
     keeper: PhantomData<K>,
 }
 
@@ -106,7 +106,7 @@ impl<K> Play<Slot<K>, View> for MoveWrite<K> {
 }
 
 /// The one before it expires.
-pub(crate) struct ExpireWrite<K> {
+pub struct ExpireWrite<K> {
     keeper: PhantomData<K>,
 }
 
@@ -117,7 +117,7 @@ impl<K> Play<Slot<K>, View> for ExpireWrite<K> {
 }
 
 /// The oldest group moves on.
-pub(crate) struct AdvanceWrite<K> {
+pub struct AdvanceWrite<K> {
     keeper: PhantomData<K>,
 }
 
@@ -128,7 +128,7 @@ impl<K> Play<Slot<K>, View> for AdvanceWrite<K> {
 }
 
 /// A marker is claimed.
-pub(crate) struct ClaimMarker<K> {
+pub struct ClaimMarker<K> {
     keeper: PhantomData<K>,
 }
 
@@ -139,7 +139,7 @@ impl<K> Play<Slot<K>, View> for ClaimMarker<K> {
 }
 
 /// A look at the synced key, before the keeper is lent notes.
-pub(crate) struct LookLent<K> {
+pub struct LookLent<K> {
     keeper: PhantomData<K>,
 }
 
@@ -150,7 +150,7 @@ impl<K> Play<Slot<K>, View> for LookLent<K> {
 }
 
 /// The next group of the append order is made.
-pub(crate) struct OpenAppend<K> {
+pub struct OpenAppend<K> {
     keeper: PhantomData<K>,
 }
 
@@ -161,7 +161,7 @@ impl<K> Play<Slot<K>, View> for OpenAppend<K> {
 }
 
 /// The synced key is put.
-pub(crate) struct PutSynced<K> {
+pub struct PutSynced<K> {
     keeper: PhantomData<K>,
 }
 
@@ -173,7 +173,7 @@ impl<K: Keeper> Play<Slot<K>, View> for PutSynced<K> {
 }
 
 /// The log is stopped.
-pub(crate) struct PutStopped<K> {
+pub struct PutStopped<K> {
     keeper: PhantomData<K>,
 }
 
@@ -185,7 +185,7 @@ impl<K: Keeper> Play<Slot<K>, View> for PutStopped<K> {
 }
 
 /// A look, after a sync that was refused.
-pub(crate) struct KeepRefused<K> {
+pub struct KeepRefused<K> {
     keeper: PhantomData<K>,
 }
 

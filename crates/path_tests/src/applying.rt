@@ -2,7 +2,7 @@
 ghost use Rattle.std.specs.Prelude.{◌≡◌, ℕ, suc, ◌<◌, IfSome};
 ghost use Rattle.clog_mutation.specs.declared.mutation.Mutation.{Mutation};
 ghost use Rattle.path_core.specs.Parts.{touches};
-ghost use Rattle.path_rule.specs.Members.{IsOf};
+ghost use Rattle.path_table.specs.Members.{IsOf};
 ghost use Rattle.write_path.specs.Applies.{HoldsUpdates, IsAppliedBelow, IsUnappliedFrom};
 ghost use Rattle.write_path.specs.Ends.{IsUntriedFrom, IsWriteStill};
 ghost use Rattle.write_path.specs.Tries.{Stays};

@@ -7,14 +7,15 @@ ghost use Rattle.path_core.specs.declared.seat.Switching.TheVariants.{Waiting};
 ghost use Rattle.path_core.specs.Holders.{HasWaiting};
 ghost use Rattle.path_core.specs.Parts.{IsIdle, stage_of};
 ghost use Rattle.path_rule.specs.Calls.{Holds};
-ghost use Rattle.path_rule.specs.Members.{view_of, part_of, IsOf};
 ghost use Rattle.path_rule.specs.Turns.{TurnSaw};
+ghost use Rattle.path_table.specs.Members.{view_of, part_of, IsOf};
 
 use clog_base::{Sizes, Table};
 use op_core::Order;
 use path_core::Keeper;
 use path_machine::ListKeeper;
-use path_rule::{Advance, Holder, Member, Opener, PathSeat, PathSize, PathTable, open};
+use path_rule::PathSize;
+use path_table::{Advance, Holder, Member, Opener, PathSeat, PathTable, open};
 use std::alloc::Global;
 use std::test::*;
 

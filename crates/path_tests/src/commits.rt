@@ -2,7 +2,7 @@
 //! spent, and of two seats what a gate is told.
 ghost use Rattle.std.specs.Prelude.{◌≡◌, ℕ, IfOk};
 ghost use Rattle.clog_mutation.specs.declared.mutation.Mutation.{Mutation};
-ghost use Rattle.path_rule.specs.Members.{IsOf};
+ghost use Rattle.path_table.specs.Members.{IsOf};
 ghost use Rattle.write_path.specs.Writes.{IsPrepared};
 
 use crate::turns::two_seats;

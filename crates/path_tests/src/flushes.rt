@@ -2,7 +2,7 @@
 //! keeper that refuses a file for memory, over three segments, and while another seat has the
 //! table's turn.
 ghost use Rattle.std.specs.Prelude.{◌≡◌, true, IfOk, IsSome};
-ghost use Rattle.path_rule.specs.Members.{IsOf};
+ghost use Rattle.path_table.specs.Members.{IsOf};
 
 use crate::commits::{DELETION, place, place_of, prepared};
 use crate::rolling::write_of;

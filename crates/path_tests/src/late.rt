@@ -2,12 +2,12 @@
 ghost use Rattle.std.specs.Prelude.{◌≡◌, ◌<◌, ◌^◌, Some, IfOk};
 ghost use Rattle.op_core.specs.declared.count.Order.TheVariants.{Write};
 ghost use Rattle.path_core.specs.Parts.{found_of};
-ghost use Rattle.path_rule.specs.Members.{part_of, IsOf};
+ghost use Rattle.path_table.specs.Members.{part_of, IsOf};
 
 use crate::barriers::{opened, waiting};
 use op_core::Order;
 use path_core::Keeper;
-use path_rule::{Advance, PathSeat, PathTable};
+use path_table::{Advance, PathSeat, PathTable};
 use std::alloc::Global;
 use std::test::*;
 

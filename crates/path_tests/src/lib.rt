@@ -1,6 +1,6 @@
-//! Tests of the path, from its machine to its writers, through their public calls. They stand in a
-//! crate of their own, since a crate that has tests is proved a second time with them, and the law
-//! of the path is long.
+//! Tests of the path, from its groups and its machine to its writers, through their public calls.
+//! They stand in a crate of their own, since a crate that has tests is proved a second time with
+//! them, and the law of the path is long.
 #![tactic(auto)]
 
 #[cfg(test)]
@@ -15,6 +15,8 @@ mod flushes;
 mod late;
 #[cfg(test)]
 mod machine;
+#[cfg(test)]
+mod orders;
 #[cfg(test)]
 mod refusing;
 #[cfg(test)]

@@ -2,7 +2,7 @@
 //! to the same marker.
 ghost use Rattle.std.specs.Prelude.{◌≡◌, IfOk};
 ghost use Rattle.path_core.specs.Keeper.{IsFresh};
-ghost use Rattle.path_rule.specs.Members.{IsOf};
+ghost use Rattle.path_table.specs.Members.{IsOf};
 
 use crate::commits::{DELETION, done, durable, place, prepared, receipt};
 use clog_base::{Key, Sizes, Table};

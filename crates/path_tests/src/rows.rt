@@ -1,6 +1,6 @@
 //! A path of which each group has been used.
 ghost use Rattle.std.specs.Prelude.{◌≡◌};
-ghost use Rattle.path_rule.specs.Members.{IsOf};
+ghost use Rattle.path_table.specs.Members.{IsOf};
 
 use crate::commits::{DELETION, one_seat, prepared};
 use clog_base::Sizes;

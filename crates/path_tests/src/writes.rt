@@ -1,7 +1,7 @@
 //! One write by hand, from opening a path to closing it.
 ghost use Rattle.std.specs.Prelude.{◌≡◌};
 ghost use Rattle.clog_mutation.specs.declared.mutation.Mutation.{Mutation};
-ghost use Rattle.path_rule.specs.Members.{IsOf};
+ghost use Rattle.path_table.specs.Members.{IsOf};
 ghost use Rattle.write_path.specs.Tries.{Stays};
 ghost use Rattle.write_path.specs.Writes.{IsPrepared};
 

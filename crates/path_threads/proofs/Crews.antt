@@ -25,9 +25,9 @@ use Rattle.std.proofs.Common.{
 use Rattle.std.specs.Option.{option_map_or}
 use Rattle.std.proofs.lemmas.List.{map-append}
 use Rattle.atomic_table.specs.Seated.{TableId}
-use Rattle.path_rule.specs.declared.trying.PathSeat.{PathSeat}
 use Rattle.path_rule.specs.declared.view.PathSize.{PathSize}
-use Rattle.path_rule.specs.Members.{IsOf}
+use Rattle.path_table.specs.declared.trying.PathSeat.{PathSeat}
+use Rattle.path_table.specs.Members.{IsOf}
 use Rattle.write_path.specs.Opened.{numbers_of}
 use Rattle.path_threads.specs.declared.worker.Worker.{Worker}
 use Rattle.path_threads.specs.Crews.{IsSeated, number_of}

@@ -12,8 +12,6 @@ mod restoring;
 mod share;
 mod skipping;
 mod taking;
-#[cfg(test)]
-mod tests;
 
 pub use alone::merge_alone;
 pub use merged::Merged;

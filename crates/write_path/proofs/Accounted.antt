@@ -55,9 +55,9 @@ use mathlib.Core.Logic.{dite, inl, inr}
 use native.Mathlib.Decide.{ℕ_discrete}
 use mathlib.Core.Option.{some}
 use lib.ListN.{get_elem?}
-use Rattle.path_rule.specs.declared.trying.PathSeat.{PathSeat}
 use Rattle.path_rule.specs.declared.view.Returned.{Returned}
-use Rattle.path_rule.specs.Members.{returned_of}
+use Rattle.path_table.specs.declared.trying.PathSeat.{PathSeat}
+use Rattle.path_table.specs.Members.{returned_of}
 use Rattle.write_path.specs.Closed.{returned_by}
 use Rattle.write_path.specs.Opened.{numbers_of}
 

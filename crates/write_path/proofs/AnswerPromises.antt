@@ -30,14 +30,14 @@ use Rattle.path_core.specs.declared.note.EntryNote.{EntryNote}
 use Rattle.path_core.specs.declared.state.Bound.{Bound}
 use Rattle.path_core.specs.Keeper.{Holding, IsFiledIn}
 use Rattle.path_core.specs.Parts.{key_of_bound, touches}
-use Rattle.path_rule.specs.declared.trying.PathSeat.{PathSeat}
 use Rattle.path_rule.specs.declared.view.OwnStep.{OwnStep}
 use Rattle.path_rule.specs.declared.view.PathSize.{PathSize}
 use Rattle.path_rule.specs.declared.view.View.{View}
 use Rattle.path_rule.specs.Finds.{Finds}
 use Rattle.path_rule.specs.FindsBounds.{FindsFinal, Retires as RetiresOne}
-use Rattle.path_rule.specs.Members.{view_of}
 use Rattle.path_rule.proofs.seats.Answering.{found_before}
+use Rattle.path_table.specs.declared.trying.PathSeat.{PathSeat}
+use Rattle.path_table.specs.Members.{view_of}
 use Rattle.write_path.specs.declared.flush.Flush.{Flush}
 use Rattle.write_path.specs.declared.flush.Flush.TheVariants.{
   Flushed,
@@ -47,7 +47,7 @@ use Rattle.write_path.specs.declared.flush.Flush.TheVariants.{
   Stopped,
   OutOfMemory,
 }
-use Rattle.write_path.specs.ClosedFiles.{HasFlushed}
+use Rattle.write_path.specs.ClosedFiles.{HasRetired}
 use Rattle.write_path.specs.Closed.{IsOutcome}
 use Rattle.write_path.specs.Ends.{writes_of}
 use Rattle.write_path.specs.Flushed.{Flushes}
@@ -87,7 +87,7 @@ least_in w t m gave v after R =
 
 is_flushed : (w : ℕ) (t : Table) (m key : ℕ) (gave : Option ℕ) (v after : View)
     (S : FlushSteps w t.0 v after) → Finalises w t.0 m key S.steps → Retires w t.0 m gave v after
-    → HasFlushed t key after.trail
+    → HasRetired t key after.trail
 is_flushed w t m key gave v after S F R = record {
   memtable = m;
   final = final_in w t.0 m key v after S F;
@@ -97,12 +97,12 @@ is_flushed w t m key gave v after S F R = record {
 }
 
 pub by_answer : (w : ℕ) (t : Table) (a : Flush) (key : ℕ) (v after : View) → IsUpTo key a
-    → Flushes w t.0 v a after → HasFlushed t key after.trail
+    → Flushes w t.0 v a after → HasRetired t key after.trail
 by_answer w t (Flushed lower upper) key v after up F =
-    subst (λ (k : ℕ). HasFlushed t k after.trail) up
+    subst (λ (k : ℕ). HasRetired t k after.trail) up
     (is_flushed w t F.is.0 upper.0 (Some lower.0) v after F.steps F.is.1.set F.is.2.retires)
 by_answer w t (Empty upper) key v after up F =
-    subst (λ (k : ℕ). HasFlushed t k after.trail) up
+    subst (λ (k : ℕ). HasRetired t k after.trail) up
     (is_flushed w t F.is.0 upper.0 None v after F.steps F.is.1.set F.is.2.0)
 by_answer w t (Busy found) key v after up F = absurd up
 by_answer w t (Rows row made) key v after up F = absurd up

@@ -41,8 +41,8 @@ use Rattle.path_rule.specs.declared.view.Hands.{Hands}
 use Rattle.path_rule.specs.declared.view.OwnStep.{OwnStep}
 use Rattle.path_rule.specs.declared.view.PathSize.{PathSize}
 use Rattle.path_rule.specs.Applying.{AreApplied, HasDeposited}
-use Rattle.path_rule.specs.Members.{part_of, hands_of, IsOf}
 use Rattle.path_rule.proofs.log.Deposits.{still_deposited}
+use Rattle.path_table.specs.Members.{part_of, hands_of, IsOf}
 use Rattle.write_path.specs.declared.deposited.Deposited.{Deposited}
 use Rattle.write_path.specs.declared.prepared.Prepared.{Prepared}
 use Rattle.write_path.specs.Applies.{

@@ -38,15 +38,15 @@ use Rattle.path_core.specs.Words.{by_of}
 use Rattle.path_core.proofs.files.RetiredStay.{not_empty}
 use Rattle.path_core.proofs.lists.Inserted.{map_from}
 use Rattle.path_core.proofs.runs.EveryRun.{placing_of}
-use Rattle.path_rule.specs.declared.trying.PathSeat.{PathSeat}
 use Rattle.path_rule.specs.declared.view.OwnStep.{OwnStep}
 use Rattle.path_rule.specs.declared.view.PathSize.{PathSize}
 use Rattle.path_rule.specs.FindsBounds.{Retires, RetiresBy}
-use Rattle.path_rule.specs.Members.{view_of}
 use Rattle.path_rule.specs.Rule.{event_of, steps_by}
 use Rattle.path_rule.specs.Trails.{TrailTells}
 use Rattle.path_rule.proofs.moves.Moving.{steps_own}
-use Rattle.write_path.specs.ClosedFiles.{IsAskedBy}
+use Rattle.path_table.specs.declared.trying.PathSeat.{PathSeat}
+use Rattle.path_table.specs.Members.{view_of}
+use Rattle.write_path.specs.ClosedFiles.{IsFlushedBy}
 use Rattle.write_path.specs.Opened.{numbers_of}
 use Rattle.write_path.proofs.Accounted.{each_there}
 use Rattle.write_path.proofs.FilesGiven.{CameBy}
@@ -84,7 +84,7 @@ module _ {K : Type 0} (size : PathSize) (x : PathState) (L : IsLawfulPath x)
     ≡ steps_by s.member.number events) seats)
     (tell : All (λ (s : PathSeat K). TrailTells size.capacity x (view_of s.member).trail) seats)
   where
-    pub asked_by : (f : WrittenFile) → CameBy size.seats events x f → IsAskedBy seats f.table
+    pub asked_by : (f : WrittenFile) → CameBy size.seats events x f → IsFlushedBy seats f.table
     asked_by f G =
         let e = Put G.by (OldestLive G.table) (suc f.memtable) in
         let one = map_from (λ (s : PathSeat K). s.member.number) seats G.by

@@ -23,13 +23,13 @@ use Rattle.path_core.specs.declared.seat.FlushTurn.{FlushTurn}
 use Rattle.path_core.specs.declared.seat.Seat.{Seat}
 use Rattle.path_core.specs.declared.seat.SeatTable.{SeatTable}
 use Rattle.path_core.specs.Parts.{seat_table, untouched, HoldsNoTurn}
-use Rattle.path_rule.specs.declared.table.Member.{Member}
 use Rattle.path_rule.specs.declared.view.FlushRead.{FlushRead}
 use Rattle.path_rule.specs.declared.view.Hands.{Hands}
 use Rattle.path_rule.specs.declared.view.View.{View}
-use Rattle.path_rule.specs.Members.{part_of, Stepped}
 use Rattle.path_rule.specs.Switches.{MayGiveFlush, ReadsNone}
 use Rattle.path_rule.proofs.seats.Accepting.{table_inside}
+use Rattle.path_table.specs.declared.table.Member.{Member}
+use Rattle.path_table.specs.Members.{part_of, Stepped}
 use Rattle.write_path.specs.Turned.{HoldsFlush}
 
 -- a seat that had no turn reads no memtable

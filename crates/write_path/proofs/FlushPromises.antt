@@ -29,13 +29,13 @@ use Rattle.path_core.specs.declared.event.Place.TheVariants.{CursorWord, Log}
 use Rattle.path_core.specs.declared.note.EntryNote.{EntryNote}
 use Rattle.path_core.specs.Keeper.{Holding, IsFiledIn, PutFile}
 use Rattle.path_core.specs.Parts.{touches}
-use Rattle.path_rule.specs.declared.trying.PathSeat.{PathSeat}
 use Rattle.path_rule.specs.declared.view.OwnStep.{OwnStep}
 use Rattle.path_rule.specs.declared.view.PathSize.{PathSize}
 use Rattle.path_rule.specs.FindsBounds.{FindsFinal}
-use Rattle.path_rule.specs.Members.{view_of}
 use Rattle.path_rule.proofs.seats.Answering.{found_before}
-use Rattle.write_path.specs.ClosedFiles.{CoversFlushed, HasFlushed}
+use Rattle.path_table.specs.declared.trying.PathSeat.{PathSeat}
+use Rattle.path_table.specs.Members.{view_of}
+use Rattle.write_path.specs.ClosedFiles.{CoversFlushed, HasRetired}
 use Rattle.write_path.specs.Closed.{IsOutcome}
 use Rattle.write_path.specs.Ends.{writes_of}
 use Rattle.write_path.specs.FlushedRows.{file_to, flushed_at}
@@ -49,8 +49,8 @@ pub final_before : (t m key : ℕ) (newer older : List OwnStep) → FindsFinal t
 final_before t m key [] older F = F
 final_before t m key (s ∷ ss) older F = inr (final_before t m key ss older F)
 
-pub still_flushed : (t : Table) (key : ℕ) (newer trail : List OwnStep) → HasFlushed t key trail
-    → HasFlushed t key (newer ++ trail)
+pub still_flushed : (t : Table) (key : ℕ) (newer trail : List OwnStep) → HasRetired t key trail
+    → HasRetired t key (newer ++ trail)
 still_flushed t key newer trail F = record {
   memtable = F.memtable;
   final = final_before t.0 F.memtable key newer trail F.final;
@@ -65,21 +65,21 @@ still_flushed t key newer trail F = record {
 -- touches the table and ends at or below the key lies in a file of the keeper.
 pub flushed_filed : {K : Type 0} (size : PathSize) (seats : List (PathSeat K)) (end : ℕ)
     (h : Holding) → IsOutcome size seats end h → (s : PathSeat K) → Contains seats s
-    → (t : Table) (key : ℕ) (before : List OwnStep) → HasFlushed t key before
+    → (t : Table) (key : ℕ) (before : List OwnStep) → HasRetired t key before
     → HasGrown before (view_of s.member).trail → (other : PathSeat K) → Contains seats other
     → (n : EntryNote) → Contains (writes_of (view_of other.member).trail) n
     → IsTrue (touches n.tables t.0) → n.end.0 ≤ key → IsFiledIn h.files t.0 n.end.0
 flushed_filed {K} size seats end h O s one t key before F G other there n among touched low =
     All-contains (λ (s : PathSeat K). CoversFlushed O.core.notes h.files (view_of s.member).trail)
     seats s O.covered one t key
-    (subst (HasFlushed t key) (sym G.is) (still_flushed t key G.newer before F)) n
+    (subst (HasRetired t key) (sym G.is) (still_flushed t key G.newer before F)) n
     (Contains-permutation _ _ n O.of_writes
     (in_flat (λ (s : PathSeat K). writes_of (view_of s.member).trail) seats other n there among))
     touched low
 
 -- ---- worked rows
 
-pub row_flushed : (key : ℕ) → HasFlushed (record { 0 = 0 }) key (flushed_at key)
+pub row_flushed : (key : ℕ) → HasRetired (record { 0 = 0 }) key (flushed_at key)
 row_flushed key = record {
   memtable = 0;
   final = inr (inl (refl, refl, refl));
@@ -94,11 +94,11 @@ row_table t m key to F = ⊎_elim (λ no. absurd no) (λ a. ⊎_elim (λ at. sym
     (λ b. ⊎_elim (λ no. absurd no) (λ c. ⊎_elim (λ no. absurd no)
     (λ d. ⊎_elim (λ no. absurd no) (λ e. ⊎_elim (λ no. absurd no) (λ no. absurd no) e) d) c) b) a) F
 
-pub row_no_other : (key to : ℕ) → ¬ HasFlushed (record { 0 = 1 }) to (flushed_at key)
+pub row_no_other : (key to : ℕ) → ¬ HasRetired (record { 0 = 1 }) to (flushed_at key)
 row_no_other key to F = absurd (let is = row_table 1 F.memtable key to F.final in omega arith)
 
 -- nor did a switch alone retire one
-pub row_switched : (t : Table) (key to : ℕ) → ¬ HasFlushed t to (switched_at 0 key)
+pub row_switched : (t : Table) (key to : ℕ) → ¬ HasRetired t to (switched_at 0 key)
 row_switched t key to F = ⊎_elim (λ no. no) (λ a. ⊎_elim (λ no. no) (λ b. ⊎_elim
     (λ at. log_no at.0) (λ c. ⊎_elim (λ no. no) (λ d. ⊎_elim (λ no. no) (λ no. no) d) c) b) a)
     F.found

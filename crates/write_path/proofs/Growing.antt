@@ -41,11 +41,11 @@ use Rattle.path_core.specs.declared.event.Event.TheVariants.{
   Put,
 }
 use Rattle.path_core.specs.declared.event.Place.TheVariants.{Count, Current, Log}
-use Rattle.path_rule.specs.declared.table.Member.{Member}
 use Rattle.path_rule.specs.declared.view.OwnStep.{OwnStep}
 use Rattle.path_rule.specs.declared.view.PathSize.{PathSize}
 use Rattle.path_rule.specs.declared.view.View.{View}
 use Rattle.path_rule.specs.Calls.{Did, Started}
+use Rattle.path_table.specs.declared.table.Member.{Member}
 use Rattle.write_path.specs.declared.deposited.Deposited.{Deposited}
 use Rattle.write_path.specs.Claims.{IsClaim, IsAgain, IsSpent}
 use Rattle.write_path.specs.Commits.{KeepsMemtables}

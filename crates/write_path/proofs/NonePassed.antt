@@ -67,8 +67,8 @@ use Rattle.path_core.proofs.lists.Heads.{ahead, first_in, first_or_later}
 use Rattle.path_core.proofs.lists.Passing.{filter_from, kept_in}
 use Rattle.path_core.proofs.log.ClaimEnds.{same_end}
 use Rattle.path_core.proofs.log.ClaimPlaces.{entry_placed}
-use Rattle.path_rule.specs.declared.trying.PathSeat.{PathSeat}
 use Rattle.path_rule.specs.declared.view.PathSize.{PathSize}
+use Rattle.path_table.specs.declared.trying.PathSeat.{PathSeat}
 use Rattle.write_path.specs.Closed.{IsOutcome, PassesNoSegment}
 use Rattle.write_path.proofs.FewSegments.{noted_end, walk}
 

@@ -57,10 +57,7 @@ use Rattle.path_rule.specs.declared.lasting.Beside.{Beside}
 use Rattle.path_rule.specs.declared.lasting.Filed.{Filed}
 use Rattle.path_rule.specs.declared.lasting.Lasting.{Lasting}
 use Rattle.path_rule.specs.declared.lasting.PutTable.{PutTable}
-use Rattle.path_rule.specs.declared.trying.PathSeat.{PathSeat}
 use Rattle.path_rule.specs.declared.view.PathSize.{PathSize}
-use Rattle.path_rule.specs.declared.bounds.TableBounds.{TableBounds}
-use Rattle.path_rule.specs.ClosedBounds.{TellsBounds}
 use Rattle.path_rule.specs.Filing.{file_range, put_range}
 use Rattle.path_rule.specs.Lasts.{
   lasting_of,
@@ -71,7 +68,6 @@ use Rattle.path_rule.specs.Lasts.{
   fault_count,
 }
 use Rattle.path_rule.specs.Limits.{most_memtables}
-use Rattle.path_rule.specs.Members.{view_of, part_of}
 use Rattle.path_rule.specs.Rule.{IsFit, start_of, event_of, steps_by}
 use Rattle.path_rule.specs.Sharing.{EndsUnused}
 use Rattle.path_rule.specs.Trails.{TrailTells}
@@ -80,7 +76,7 @@ use Rattle.write_path.specs.ClosedFiles.{
   AreFinal,
   AreGiven,
   CoversFlushed,
-  IsAskedBy,
+  IsFlushedBy,
   held_range,
 }
 use Rattle.write_path.specs.Closed.{
@@ -112,6 +108,10 @@ use Rattle.write_path.proofs.FilesGiven.{CameBy, files_given}
 use Rattle.write_path.proofs.ToldFiles.{are_given, stand_for_some}
 use Rattle.path_rule.proofs.log.FilesShown.{few_files}
 use Rattle.path_rule.proofs.log.NoneDropped.{none_dropped}
+use Rattle.path_table.specs.declared.trying.PathSeat.{PathSeat}
+use Rattle.path_table.specs.declared.bounds.TableBounds.{TableBounds}
+use Rattle.path_table.specs.ClosedBounds.{TellsBounds}
+use Rattle.path_table.specs.Members.{view_of, part_of}
 use Rattle.write_path.proofs.NonePassed.{first_part, none_passed}
 use Rattle.write_path.proofs.Parted.{parts_at}
 use Rattle.write_path.proofs.Histories.{noted, writes_are, run_notes, by_all, all_noted}
@@ -310,7 +310,7 @@ module _ {K : Type 0} (size : PathSize) where
           asked = λ f put. let g = map_from file_range x.files (held_range f)
               (subst (λ (l : List (ℕ × (ℕ × ℕ))). Contains l (held_range f)) files_are
               (map_old held_range h.files f put)) in
-              subst (IsAskedBy seats) (ap (λ (r : ℕ × (ℕ × ℕ)). r.0) g.2)
+              subst (IsFlushedBy seats) (ap (λ (r : ℕ × (ℕ × ℕ)). r.0) g.2)
               (asked_by size x L e.events seats all E.own E.tell g.0 (came g.0 g.1));
           for_some = stand_for_some x h.files files_are L size.seats e.events came;
           finals = known_of x

@@ -29,12 +29,12 @@ use Rattle.path_core.specs.Keeper.{Holding}
 use Rattle.path_core.specs.Keys.{after as behind_key}
 use Rattle.path_core.specs.LawfulLog.{is_at_most}
 use Rattle.path_core.proofs.lists.Passing.{kept_in}
-use Rattle.path_rule.specs.declared.trying.PathSeat.{PathSeat}
 use Rattle.path_rule.specs.declared.view.OwnStep.{OwnStep}
 use Rattle.path_rule.specs.declared.view.PathSize.{PathSize}
 use Rattle.path_rule.specs.Finds.{Finds}
-use Rattle.path_rule.specs.Members.{view_of}
 use Rattle.path_rule.proofs.seats.Answering.{found_after, found_before}
+use Rattle.path_table.specs.declared.trying.PathSeat.{PathSeat}
+use Rattle.path_table.specs.Members.{view_of}
 use Rattle.write_path.specs.declared.prepared.Prepared.{Prepared}
 use Rattle.write_path.specs.Closed.{ArePartedFor, AreSyncedFor, IsOutcome}
 use Rattle.write_path.specs.Commits.{IsLogged}

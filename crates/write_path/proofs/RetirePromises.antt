@@ -43,13 +43,13 @@ use Rattle.path_core.specs.Parts.{
   touches,
 }
 use Rattle.path_core.proofs.lists.Passing.{any_from}
-use Rattle.path_rule.specs.declared.trying.PathSeat.{PathSeat}
 use Rattle.path_rule.specs.declared.view.OwnStep.{OwnStep}
 use Rattle.path_rule.specs.declared.view.PathSize.{PathSize}
 use Rattle.path_rule.specs.FindsBounds.{FindsFinal, Retires}
-use Rattle.path_rule.specs.Members.{view_of}
 use Rattle.path_rule.specs.TrailRows.{retired}
 use Rattle.path_rule.specs.Trails.{HoldsSome}
+use Rattle.path_table.specs.declared.trying.PathSeat.{PathSeat}
+use Rattle.path_table.specs.Members.{view_of}
 use Rattle.write_path.specs.ClosedFiles.{
   AreEmpty,
   AreFinal,

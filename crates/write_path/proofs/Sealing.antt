@@ -21,12 +21,12 @@ use Rattle.path_core.specs.declared.event.Event.TheVariants.{
 }
 use Rattle.path_core.specs.declared.event.Place.{Place}
 use Rattle.path_core.specs.declared.note.EntryNote.{EntryNote}
-use Rattle.path_rule.specs.declared.table.Member.{Member}
 use Rattle.path_rule.specs.declared.view.OwnStep.{OwnStep}
 use Rattle.path_rule.specs.declared.view.View.{View}
 use Rattle.path_rule.specs.Finds.{Finds}
 use Rattle.path_rule.specs.Rounds.{IsRoundStep, AreRoundSteps, RoundSteps}
 use Rattle.path_rule.specs.Rule.{event_of}
+use Rattle.path_table.specs.declared.table.Member.{Member}
 use Rattle.write_path.specs.declared.deposited.Deposited.{Deposited}
 use Rattle.write_path.specs.Ends.{LastBy, IsLast, IsTry, AreTries, EndsWrite}
 use Rattle.write_path.specs.Sealed.{FoundWhileLast, IsSealed}

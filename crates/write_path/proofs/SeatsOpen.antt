@@ -42,12 +42,12 @@ use Rattle.path_core.specs.Words.{by_of}
 use Rattle.path_core.proofs.frame.Runs.{past_sizes}
 use Rattle.path_core.proofs.frame.Tables.{newest_left}
 use Rattle.path_core.proofs.lists.Replaced.{put_at, replicated}
-use Rattle.path_rule.specs.declared.trying.PathSeat.{PathSeat}
 use Rattle.path_rule.specs.declared.view.OwnStep.{OwnStep}
 use Rattle.path_rule.specs.declared.view.PathSize.{PathSize}
-use Rattle.path_rule.specs.Members.{view_of}
 use Rattle.path_rule.specs.Rule.{event_of, start_of, steps_by}
 use Rattle.path_rule.proofs.moves.Moving.{steps_own}
+use Rattle.path_table.specs.declared.trying.PathSeat.{PathSeat}
+use Rattle.path_table.specs.Members.{view_of}
 use Rattle.write_path.specs.Closed.{all_opened}
 use Rattle.write_path.specs.Opened.{numbers_of}
 use Rattle.write_path.specs.Opens.{opens}

@@ -35,15 +35,15 @@ use Rattle.path_core.specs.declared.event.Place.TheVariants.{Current, Log}
 use Rattle.path_core.specs.Keeper.{Holding}
 use Rattle.path_core.specs.Keys.{entry_end, fits, next_segment, ordinal_of}
 use Rattle.path_rule.specs.declared.answer.SyncAnswer.TheVariants.{Rows}
-use Rattle.path_rule.specs.declared.trying.PathSeat.{PathSeat}
 use Rattle.path_rule.specs.declared.view.OwnStep.{OwnStep}
 use Rattle.path_rule.specs.declared.view.PathSize.{PathSize}
 use Rattle.path_rule.specs.declared.view.View.{View}
 use Rattle.path_rule.specs.Finds.{Finds}
 use Rattle.path_rule.specs.Layout.{group_rows}
 use Rattle.path_rule.specs.Limits.{most_memtables}
-use Rattle.path_rule.specs.Members.{view_of}
 use Rattle.path_rule.proofs.seats.Answering.{found_after, found_before}
+use Rattle.path_table.specs.declared.trying.PathSeat.{PathSeat}
+use Rattle.path_table.specs.Members.{view_of}
 use Rattle.sync_core.specs.declared.SyncCore.TheVariants.{Batch}
 use Rattle.write_path.specs.declared.commit.Commit.TheVariants.{Unsynced}
 use Rattle.write_path.specs.declared.commit.Receipt.{Receipt}

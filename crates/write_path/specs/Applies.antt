@@ -19,7 +19,7 @@ use Rattle.path_core.specs.declared.note.EntryNote.{EntryNote}
 use Rattle.path_core.specs.declared.state.Placed.{Placed}
 use Rattle.path_core.specs.Parts.{seat_table, touches}
 use Rattle.path_rule.specs.Applying.{HasDeposited}
-use Rattle.path_rule.specs.Members.{view_of, part_of, hands_of}
+use Rattle.path_table.specs.Members.{view_of, part_of, hands_of}
 use Rattle.write_path.specs.declared.deposited.Deposited.{Deposited}
 use Rattle.write_path.specs.declared.prepared.Prepared.{Prepared}
 

@@ -4,11 +4,11 @@ use Rattle.path_core.specs.declared.event.ClaimKind.TheVariants.{Entry}
 use Rattle.path_core.specs.declared.event.Event.TheVariants.{Look, Claim}
 use Rattle.path_core.specs.declared.event.Place.TheVariants.{Log}
 use Rattle.path_core.specs.Keys.{entry_end, ordinal_of}
-use Rattle.path_rule.specs.declared.trying.Seen.{Seen}
 use Rattle.path_rule.specs.declared.view.PathSize.{PathSize}
 use Rattle.path_rule.specs.declared.view.View.{View}
 use Rattle.path_rule.specs.Calls.{Did}
 use Rattle.path_rule.specs.Rule.{view_after}
+use Rattle.path_table.specs.declared.trying.Seen.{Seen}
 use Rattle.clog_base.specs.declared.position.Key.{Key}
 use Rattle.write_path.specs.declared.claimed.Claimed.{Claimed as ClaimedSeat}
 use Rattle.write_path.specs.declared.claiming.TryClaim.{TryClaim}

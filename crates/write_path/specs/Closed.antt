@@ -35,16 +35,16 @@ use Rattle.path_core.specs.LawfulLog.{is_at_most}
 use Rattle.path_core.specs.Next.{is_between}
 use Rattle.path_core.specs.Runs.{Past}
 use Rattle.path_core.specs.Whole.{IsWhole}
-use Rattle.path_rule.specs.declared.table.Opener.{Opener}
-use Rattle.path_rule.specs.declared.trying.PathSeat.{PathSeat}
 use Rattle.path_rule.specs.declared.view.PathSize.{PathSize}
 use Rattle.path_rule.specs.declared.view.Returned.{Returned}
 use Rattle.path_rule.specs.Filing.{IsCellBetween, file_range}
 use Rattle.path_rule.specs.Finds.{Finds}
 use Rattle.path_rule.specs.Lasts.{fault_count, stopped_with}
 use Rattle.path_rule.specs.Limits.{most_memtables}
-use Rattle.path_rule.specs.Members.{view_of, part_of, IsOf, returned_of}
 use Rattle.path_rule.specs.Rule.{AreBuilt, IsFit, start_of, event_of, steps_by}
+use Rattle.path_table.specs.declared.table.Opener.{Opener}
+use Rattle.path_table.specs.declared.trying.PathSeat.{PathSeat}
+use Rattle.path_table.specs.Members.{view_of, part_of, IsOf, returned_of}
 use Rattle.write_path.specs.declared.resting.Resting.{Resting}
 use Rattle.write_path.specs.ClosedFiles.{
   AreEmpty,
@@ -52,7 +52,7 @@ use Rattle.write_path.specs.ClosedFiles.{
   AreGiven,
   CoversFlushed,
   HasEntryBetween,
-  IsAskedBy,
+  IsFlushedBy,
   IsUnfiled,
   held_range,
 }
@@ -212,7 +212,7 @@ pub record IsOutcome {K : Type 0} (size : PathSize) (seats : List (PathSeat K)) 
   pub covered : All (λ (s : PathSeat K). CoversFlushed core.notes h.files
       (view_of s.member).trail) seats
   -- each file is of a table of which a seat has retired a memtable with a file
-  pub asked : (f : PutFile) → Contains h.files f → IsAskedBy seats f.table
+  pub asked : (f : PutFile) → Contains h.files f → IsFlushedBy seats f.table
   -- and stands for an entry: one of the history touches its table, and ends within its interval
   pub for_some : (f : PutFile) → Contains h.files f
       → HasEntryBetween core.notes f.table f.lower f.upper

@@ -5,12 +5,12 @@ use Rattle.atomic_table.specs.Seated.{TableId}
 use Rattle.path_core.specs.declared.event.Place.TheVariants.{Log}
 use Rattle.path_core.specs.declared.note.EntryNote.{EntryNote}
 use Rattle.path_core.specs.Keys.{entry_end, ordinal_of}
-use Rattle.path_rule.specs.declared.table.Member.{Member}
 use Rattle.path_rule.specs.declared.view.OwnStep.{OwnStep}
 use Rattle.path_rule.specs.declared.view.PathSize.{PathSize}
 use Rattle.path_rule.specs.declared.view.View.{View}
 use Rattle.path_rule.specs.Calls.{FoundSince}
 use Rattle.path_rule.specs.Finds.{Finds}
+use Rattle.path_table.specs.declared.table.Member.{Member}
 use Rattle.write_path.specs.declared.prepared.Prepared.{Prepared}
 use Rattle.write_path.specs.declared.writing.Written.{Written}
 use Rattle.write_path.specs.declared.writing.Written.TheVariants.{Logged, Spent}

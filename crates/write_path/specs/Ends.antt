@@ -33,15 +33,15 @@ use Rattle.path_core.specs.declared.state.Bound.{Bound as BoundOf}
 use Rattle.path_core.specs.declared.state.Bound.TheVariants.{Live, Raising, Final}
 use Rattle.path_core.specs.Allowed.{IsItsPlaces}
 use Rattle.path_core.specs.Parts.{seat_table}
-use Rattle.path_rule.specs.declared.table.Member.{Member}
 use Rattle.path_rule.specs.declared.view.Hands.{Hands}
 use Rattle.path_rule.specs.declared.view.OwnStep.{OwnStep}
 use Rattle.path_rule.specs.declared.view.PathSize.{PathSize}
 use Rattle.path_rule.specs.declared.view.View.{View}
 use Rattle.path_rule.specs.Applying.{AreApplied}
 use Rattle.path_rule.specs.Calls.{Did}
-use Rattle.path_rule.specs.Members.{part_of}
 use Rattle.path_rule.specs.Rule.{event_of}
+use Rattle.path_table.specs.declared.table.Member.{Member}
+use Rattle.path_table.specs.Members.{part_of}
 use Rattle.write_path.specs.declared.deposited.Deposited.{Deposited}
 use Rattle.write_path.specs.declared.accepting.Accept.{Accept}
 use Rattle.write_path.specs.declared.accepting.Accept.TheVariants.{Yes, Later}

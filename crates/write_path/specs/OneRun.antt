@@ -4,13 +4,13 @@ use Rattle.std.specs.List.{All}
 use Rattle.path_core.specs.Keeper.{Holding}
 use Rattle.path_core.specs.Parts.{seat_of}
 use Rattle.path_rule.specs.declared.lasting.Beside.{Beside}
-use Rattle.path_rule.specs.declared.trying.PathSeat.{PathSeat}
 use Rattle.path_rule.specs.declared.view.PathSize.{PathSize}
 use Rattle.path_rule.specs.declared.view.Returned.{Returned}
-use Rattle.path_rule.specs.Members.{view_of, part_of}
 use Rattle.path_rule.specs.Rule.{event_of, steps_by}
 use Rattle.path_rule.specs.Sharing.{Ended}
 use Rattle.path_rule.specs.Trails.{TrailTells}
+use Rattle.path_table.specs.declared.trying.PathSeat.{PathSeat}
+use Rattle.path_table.specs.Members.{view_of, part_of}
 
 -- The path ended in one run of the machine, in which each of these seats' steps are its own.
 pub record EndsBy {K : Type 0} (beside : Beside) (size : PathSize) (seats : List (PathSeat K))

@@ -4,12 +4,12 @@ use Rattle.std.specs.List.{All, range_with_len}
 use Rattle.atomic_table.specs.Seated.{TableId}
 use Rattle.clog_base.specs.declared.sizes.Sizes.{Sizes}
 use Rattle.path_core.specs.Keeper.{Holding}
-use Rattle.path_rule.specs.declared.table.Opener.{Opener}
-use Rattle.path_rule.specs.declared.trying.PathSeat.{PathSeat}
 use Rattle.path_rule.specs.declared.view.PathSize.{PathSize}
 use Rattle.path_rule.specs.Lasts.{lasting_of}
-use Rattle.path_rule.specs.Members.{view_of, IsOf}
 use Rattle.path_rule.specs.Rule.{new_seat}
+use Rattle.path_table.specs.declared.table.Opener.{Opener}
+use Rattle.path_table.specs.declared.trying.PathSeat.{PathSeat}
+use Rattle.path_table.specs.Members.{view_of, IsOf}
 
 -- What a path is told of its sizes and of its keeper's, and whether its memtables may go to table
 -- files.

@@ -6,12 +6,12 @@ use Rattle.op_core.specs.declared.count.Order.TheVariants.{Append}
 use Rattle.path_core.specs.declared.event.Event.TheVariants.{Register}
 use Rattle.path_core.specs.declared.event.Place.TheVariants.{Count}
 use Rattle.path_core.specs.declared.note.EntryNote.{EntryNote}
-use Rattle.path_rule.specs.declared.table.Member.{Member}
 use Rattle.path_rule.specs.declared.view.PathSize.{PathSize}
 use Rattle.path_rule.specs.declared.view.View.{View}
 use Rattle.path_rule.specs.Calls.{DidAs, Refused, FoundSince, acts, looked_twice}
 use Rattle.path_rule.specs.HandsAfter.{with_notes}
-use Rattle.path_rule.specs.Members.{IsOf}
+use Rattle.path_table.specs.declared.table.Member.{Member}
+use Rattle.path_table.specs.Members.{IsOf}
 
 -- It is the same seat of the path, whose table has this id and these sizes.
 abbrev pub Stays : {K : Type 0} → TableId → PathSize → Member K → Member K → Type 0

@@ -12,15 +12,15 @@ use Rattle.path_core.specs.Next.{has_filed}
 use Rattle.path_core.specs.Parts.{seat_table, stage_of, IsIdle}
 use Rattle.path_rule.specs.declared.lasting.Lasting.{Lasting}
 use Rattle.path_rule.specs.declared.slot.Slot.{Slot}
-use Rattle.path_rule.specs.declared.table.Member.{Member}
 use Rattle.path_rule.specs.declared.view.Progress.{Progress}
 use Rattle.path_rule.specs.declared.view.View.{View}
 use Rattle.path_rule.specs.Calls.{Holds}
 use Rattle.path_rule.specs.Desks.{HasDesk}
 use Rattle.path_rule.specs.HandsAfter.{unswept_hands, with_desk}
-use Rattle.path_rule.specs.Members.{hands_of, boxes_of, Stepped, SteppedAs}
 use Rattle.path_rule.specs.Rounds.{IsAtRest}
 use Rattle.path_rule.specs.Switches.{ReadsNone}
+use Rattle.path_table.specs.declared.table.Member.{Member}
+use Rattle.path_table.specs.Members.{hands_of, boxes_of, Stepped, SteppedAs}
 
 -- It has the Sync turn, with no barrier under way and no box of another seat. It runs no write, and
 -- filed nothing.

@@ -6,7 +6,7 @@ ghost use Rattle.path_core.specs.declared.state.Bound.TheVariants.{Live};
 ghost use Rattle.path_core.specs.LawfulSeats.{BoundStays};
 ghost use Rattle.path_core.specs.Parts.{seat_table};
 ghost use Rattle.path_rule.specs.Accepted.{RaisesBound, TriesBound};
-ghost use Rattle.path_rule.specs.Members.{part_of, IsOf};
+ghost use Rattle.path_table.specs.Members.{part_of, IsOf};
 ghost use Rattle.write_path.specs.Ends.{answered, HasTried, IsSameWrite};
 
 use crate::deposited::Deposited;

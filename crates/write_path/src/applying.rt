@@ -2,7 +2,7 @@
 ghost use Rattle.std.specs.Prelude.{◌≡◌, ℕ, ◌<◌, ◌∷◌, IsTrue, Some};
 ghost use Rattle.path_core.specs.declared.state.Placed.{Placed};
 ghost use Rattle.path_core.specs.Parts.{seat_table, touches};
-ghost use Rattle.path_rule.specs.Members.{part_of, hands_of, IsOf};
+ghost use Rattle.path_table.specs.Members.{part_of, hands_of, IsOf};
 ghost use Rattle.write_path.specs.Applies.{HoldsUpdates, IsUnapplied};
 ghost use Rattle.write_path.specs.Ends.{IsWriteStill};
 

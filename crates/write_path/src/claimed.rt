@@ -5,7 +5,7 @@ ghost use Rattle.path_rule.specs.declared.slot.Slot.TheVariants.{Notes};
 ghost use Rattle.path_rule.specs.Boxes.{box_of};
 
 use clog_base::Key;
-use path_rule::Member;
+use path_table::Member;
 
 /// A seat that has claimed the range of its entry. It is in a group of each order, and has its box.
 #[derive(Drop)]

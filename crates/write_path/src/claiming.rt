@@ -1,6 +1,6 @@
 //! A write claims its range of the log, by one try.
 ghost use Rattle.std.specs.Prelude.{◌≡◌, ◌+◌, ◌/◌, ◌≤◌, ⊤};
-ghost use Rattle.path_rule.specs.Members.{view_of, IsOf};
+ghost use Rattle.path_table.specs.Members.{view_of, IsOf};
 ghost use Rattle.write_path.specs.Commits.{WritesEndBelow};
 ghost use Rattle.write_path.specs.Claims.{MatchClaim, IsClaim, IsAgain, IsSpent};
 ghost use Rattle.write_path.specs.Tries.{Stays};
@@ -10,7 +10,7 @@ use crate::claimed::Claimed;
 use crate::seats::{Appending, WritePath};
 use clog_base::Key;
 use path_core::Keeper;
-use path_rule::Seen;
+use path_table::Seen;
 use std::alloc::Allocator;
 
 /// What a try to claim answers.

@@ -23,8 +23,8 @@ ghost use Rattle.path_core.specs.Parts.{memtable_of, touches};
 ghost use Rattle.path_rule.specs.declared.view.OwnStep.{OwnStep};
 ghost use Rattle.path_rule.specs.declared.view.PathSize.{PathSize};
 ghost use Rattle.path_rule.specs.declared.view.View.{View};
-ghost use Rattle.path_rule.specs.Members.{view_of};
 ghost use Rattle.path_rule.specs.TrailRows.{retired};
+ghost use Rattle.path_table.specs.Members.{view_of};
 ghost use Rattle.write_path.specs.declared.flush.Flush.TheVariants.{Rows as FlushRows};
 ghost use Rattle.write_path.specs.declared.switch.Row.TheVariants.{Memtables, WriteGroups};
 ghost use Rattle.write_path.specs.declared.switch.Switch.TheVariants.{Rows as SwitchRows};
@@ -34,7 +34,7 @@ ghost use Rattle.write_path.specs.ClosedFiles.{
   AreGiven,
   CoversFlushed,
   HasEntryBetween,
-  HasFlushed,
+  HasRetired,
   IsGiven,
 };
 ghost use Rattle.write_path.specs.Grown.{HasGrown};
@@ -44,19 +44,19 @@ ghost use Rattle.write_path.specs.Switched.{Switches};
 ghost use Rattle.write_path.specs.SwitchedRows.{switched_at};
 
 use path_core::Keeper;
-use path_rule::PathSeat;
+use path_table::PathSeat;
 
 /// What a seat's steps tell of a flush, and what a close says then of the keeper's files.
 pub fn what_a_flush_covers()
     // A memtable that was made final at a key, and retired, is flushed up to that key, and no
     // other table is.
-    ensures flushed { (key : ℕ) → HasFlushed (record { 0 = 0 }) key (flushed_at key) }
-    ensures no_other { (key to : ℕ) → ¬ HasFlushed (record { 0 = 1 }) to (flushed_at key) }
+    ensures flushed { (key : ℕ) → HasRetired (record { 0 = 0 }) key (flushed_at key) }
+    ensures no_other { (key to : ℕ) → ¬ HasRetired (record { 0 = 1 }) to (flushed_at key) }
     // One that was only switched is not.
-    ensures switched { (t : Table) (key to : ℕ) → ¬ HasFlushed t to (switched_at 0 key) }
+    ensures switched { (t : Table) (key to : ℕ) → ¬ HasRetired t to (switched_at 0 key) }
     // What the steps of a seat tell they tell when it has made others too.
-    ensures stays { (t : Table) (key : ℕ) (newer trail : List OwnStep) → HasFlushed t key trail
-        → HasFlushed t key (newer ++ trail) }
+    ensures stays { (t : Table) (key : ℕ) (newer trail : List OwnStep) → HasRetired t key trail
+        → HasRetired t key (newer ++ trail) }
     // An entry of the table at or below the key lies in a file up to the key; without one, and
     // with one that ends below the entry, the close would be wrong.
     ensures filed { (key : ℕ) (n : EntryNote) → 0 < n.end.0 → n.end.0 ≤ key

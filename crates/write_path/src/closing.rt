@@ -2,9 +2,9 @@
 ghost use Rattle.std.specs.Prelude.{◌≡◌, ◌++◌, reverse};
 ghost use Rattle.std.specs.List.{range_with_len};
 ghost use Rattle.std.specs.List.Sorted.{IsPermutation};
-ghost use Rattle.path_rule.specs.ClosedBounds.{TellsBounds};
 ghost use Rattle.path_rule.specs.Lasts.{beside_of};
-ghost use Rattle.path_rule.specs.Members.{view_of, part_of, boxes_of, IsOf};
+ghost use Rattle.path_table.specs.ClosedBounds.{TellsBounds};
+ghost use Rattle.path_table.specs.Members.{view_of, part_of, boxes_of, IsOf};
 ghost use Rattle.write_path.specs.Closed.{
   AreAll,
   AreOf,
@@ -18,7 +18,7 @@ ghost use Rattle.write_path.specs.Opened.{numbers_of};
 use crate::seats::WritePath;
 use clog_base::Key;
 use path_core::Keeper;
-use path_rule::{Member, PathSeat, PathTable, TableBounds};
+use path_table::{Member, PathSeat, PathTable, TableBounds};
 use std::alloc::{Allocator, Global};
 
 /// What a path tells when it is closed, beside its keeper.

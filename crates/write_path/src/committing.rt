@@ -1,7 +1,7 @@
 //! A write up to its claim, by calls that wait: each tries until one try is not refused by what
 //! other seats did. The seat's list is as it was.
 ghost use Rattle.std.specs.Prelude.{◌≡◌, ◌+◌, ◌/◌, ◌<◌, ◌≤◌, length, IfOk, MatchResult};
-ghost use Rattle.path_rule.specs.Members.{view_of, IsOf};
+ghost use Rattle.path_table.specs.Members.{view_of, IsOf};
 ghost use Rattle.write_path.specs.Commits.{HasNoRoom, KeepsMemtables, WritesEndBelow};
 
 use crate::claimed::Claimed;
@@ -9,7 +9,7 @@ use crate::claiming::TryClaim;
 use crate::seats::{Appending, WritePath};
 use clog_base::Key;
 use path_core::Keeper;
-use path_rule::{Begun, PathSeat};
+use path_table::{Begun, PathSeat};
 use std::alloc::Allocator;
 use std::sync::Wait;
 use std::thread::yield_now;

@@ -4,7 +4,7 @@ ghost use Rattle.std.specs.Prelude.{◌≡◌, ◌^◌, ◌<◌, [], Some, None}
 ghost use Rattle.path_core.specs.Parts.{HoldsNoTurn};
 
 use clog_base::Key;
-use path_rule::Member;
+use path_table::Member;
 
 /// A seat that has deposited its entry and left the append order. It is in a group of the write
 /// order, and has no box.

@@ -6,7 +6,7 @@ ghost use Rattle.op_core.specs.declared.count.Order.TheVariants.{Append};
 ghost use Rattle.path_core.specs.declared.event.Carried.TheVariants.{Deposit};
 ghost use Rattle.path_core.specs.declared.event.Event.TheVariants.{Close};
 ghost use Rattle.path_core.specs.declared.note.EntryNote.{EntryNote};
-ghost use Rattle.path_rule.specs.Members.{view_of, IsOf, Stepped};
+ghost use Rattle.path_table.specs.Members.{view_of, IsOf, Stepped};
 ghost use Rattle.write_path.specs.Applies.{HoldsUpdates, IsUnappliedFrom};
 ghost use Rattle.write_path.specs.Ends.{IsListed, IsUntriedFrom};
 ghost use Rattle.write_path.specs.Tries.{Stays};

@@ -11,7 +11,7 @@ ghost use Rattle.path_core.specs.declared.event.Event.TheVariants.{Look, Close};
 ghost use Rattle.path_core.specs.declared.event.Place.TheVariants.{CursorWord};
 ghost use Rattle.path_core.specs.Allowed.{IsItsPlaces};
 ghost use Rattle.path_core.specs.Parts.{seat_table, touches};
-ghost use Rattle.path_rule.specs.Members.{view_of, part_of, IsOf, Stepped};
+ghost use Rattle.path_table.specs.Members.{view_of, part_of, IsOf, Stepped};
 ghost use Rattle.write_path.specs.Applies.{HoldsUpdates, IsAppliedBelow, IsUnappliedFrom};
 ghost use Rattle.write_path.specs.Ends.{
   writes_of,
@@ -30,7 +30,7 @@ use crate::seats::WritePath;
 use clog_base::{Table, Writer};
 use clog_io::{Gate, Point};
 use path_core::Keeper;
-use path_rule::PathSeat;
+use path_table::PathSeat;
 use std::alloc::Allocator;
 
 impl<K: Keeper, A: Allocator> WritePath<K, A> {

@@ -2,7 +2,7 @@
 ghost use Rattle.std.specs.Prelude.{◌≡◌, ℕ, None};
 ghost use Rattle.path_core.specs.Parts.{seat_table};
 ghost use Rattle.path_rule.specs.Lasts.{shows_of};
-ghost use Rattle.path_rule.specs.Members.{view_of, part_of, hands_of, IsOf};
+ghost use Rattle.path_table.specs.Members.{view_of, part_of, hands_of, IsOf};
 ghost use Rattle.write_path.specs.FlushFilings.{HasBoth, IsBarred};
 ghost use Rattle.write_path.specs.FlushSteps.{QuietSteps};
 ghost use Rattle.write_path.specs.FlushTurns.{HasTable};
@@ -11,7 +11,7 @@ ghost use Rattle.write_path.specs.Tries.{Stays};
 use crate::seats::WritePath;
 use clog_base::Table;
 use path_core::Keeper;
-use path_rule::{Holder, Member, PathSeat};
+use path_table::{Holder, Member, PathSeat};
 use std::alloc::Allocator;
 use std::sync::Wait;
 

@@ -8,7 +8,7 @@ ghost use Rattle.path_rule.specs.Filing.{MayPut, upper_of};
 ghost use Rattle.path_rule.specs.FilingTold.{CarriesFiled, FoundFinal, TurnSynced, next_file};
 ghost use Rattle.path_rule.specs.Flushes.{SeesNone, TakesNone};
 ghost use Rattle.path_rule.specs.Lasts.{shows_of};
-ghost use Rattle.path_rule.specs.Members.{view_of, part_of, hands_of, boxes_of, IsOf};
+ghost use Rattle.path_table.specs.Members.{view_of, part_of, hands_of, boxes_of, IsOf};
 ghost use Rattle.write_path.specs.FlushFilings.{AwaitsFile, HasBoth, HasTurns, Retired};
 ghost use Rattle.write_path.specs.FlushReads.{ReadSteps};
 ghost use Rattle.write_path.specs.FlushTurns.{HoldsBoth};
@@ -19,7 +19,7 @@ use crate::seats::WritePath;
 use clog_base::{Key, Table};
 use clog_cells::CellMap;
 use path_core::Keeper;
-use path_rule::Member;
+use path_table::Member;
 use std::alloc::Allocator;
 
 impl<K: Keeper, A: Allocator> WritePath<K, A> {

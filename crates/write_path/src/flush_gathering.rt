@@ -4,7 +4,7 @@ ghost use Rattle.std.specs.List.{list_any};
 ghost use Rattle.std.specs.Prelude.{◌≡◌, ℕ, suc, ◌<◌, ◌||◌, [], Some, nat_lt, IfSome};
 ghost use Rattle.path_core.specs.declared.note.EntryNote.{EntryNote};
 ghost use Rattle.path_rule.specs.declared.view.FlushRead.{FlushRead};
-ghost use Rattle.path_rule.specs.Members.{view_of, hands_of, boxes_of, IsOf};
+ghost use Rattle.path_table.specs.Members.{view_of, hands_of, boxes_of, IsOf};
 ghost use Rattle.write_path.specs.FlushGathers.{
   HasGathered,
   HasGatheredAll,
@@ -22,7 +22,7 @@ use clog_base::{Key, OutOfMemory, Table};
 use clog_cells::CellMap;
 use clog_memtable::gather;
 use path_core::{EntryNote, Keeper};
-use path_rule::Member;
+use path_table::Member;
 use std::alloc::{Allocator, Global};
 use std::collections::LinkedList;
 

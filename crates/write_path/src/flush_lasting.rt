@@ -3,8 +3,8 @@ ghost use Rattle.std.specs.Prelude.{◌≡◌, ℕ, ◌<◌, true, None};
 ghost use Rattle.path_core.specs.Parts.{seat_table};
 ghost use Rattle.path_rule.specs.Flushes.{TakesNone};
 ghost use Rattle.path_rule.specs.Lasts.{shows_of};
-ghost use Rattle.path_rule.specs.Members.{view_of, part_of, hands_of, IsOf};
 ghost use Rattle.path_rule.specs.SyncAnswers.{KnowsMarker};
+ghost use Rattle.path_table.specs.Members.{view_of, part_of, hands_of, IsOf};
 ghost use Rattle.write_path.specs.FlushFilings.{
   AwaitsFile,
   HasBoth,
@@ -25,7 +25,8 @@ use crate::switch::Row;
 use clog_base::{Key, Table};
 use clog_cells::CellMap;
 use path_core::Keeper;
-use path_rule::{Member, SyncAnswer};
+use path_rule::SyncAnswer;
+use path_table::Member;
 use std::alloc::{Allocator, Global};
 use std::sync::Wait;
 use std::thread::yield_now;

@@ -8,8 +8,8 @@ ghost use Rattle.path_core.specs.Next.{has_filed};
 ghost use Rattle.path_rule.specs.FilingTold.{CarriesNoted, TurnSynced};
 ghost use Rattle.path_rule.specs.Finds.{Finds};
 ghost use Rattle.path_rule.specs.Lasts.{shows_of};
-ghost use Rattle.path_rule.specs.Members.{view_of, part_of, hands_of, IsOf};
 ghost use Rattle.path_rule.specs.Turns.{FoundRunning};
+ghost use Rattle.path_table.specs.Members.{view_of, part_of, hands_of, IsOf};
 ghost use Rattle.write_path.specs.FlushFilings.{
   FilingSteps,
   HasBoth,
@@ -27,7 +27,7 @@ use crate::flush::Flush;
 use crate::seats::WritePath;
 use clog_base::{Key, Table};
 use path_core::{Keeper, KeeperFault};
-use path_rule::Member;
+use path_table::Member;
 use std::alloc::Allocator;
 
 // What is answered where segments were not dropped: nothing where the keeper wants memory.

@@ -17,16 +17,16 @@ ghost use Rattle.path_core.specs.declared.note.EntryNote.{EntryNote};
 ghost use Rattle.path_rule.specs.declared.view.FlushRead.{FlushRead};
 ghost use Rattle.path_rule.specs.Boxes.{memtable_box};
 ghost use Rattle.path_rule.specs.Flushes.{SeesNone};
-ghost use Rattle.path_rule.specs.Members.{view_of, part_of, hands_of, boxes_of, IsOf};
 ghost use Rattle.path_rule.specs.Switches.{FlushOldest, MayBeginRead};
 ghost use Rattle.path_rule.specs.Trimmed.{IsTrimmed};
+ghost use Rattle.path_table.specs.Members.{view_of, part_of, hands_of, boxes_of, IsOf};
 ghost use Rattle.write_path.specs.FlushReads.{HasRead, ReadSteps};
 ghost use Rattle.write_path.specs.Tries.{Stays};
 
 use crate::seats::WritePath;
 use clog_base::{Key, Table};
 use path_core::{EntryNote, Keeper};
-use path_rule::Member;
+use path_table::Member;
 use std::alloc::{Allocator, Global};
 use std::collections::LinkedList;
 

@@ -7,7 +7,7 @@ ghost use Rattle.path_core.specs.Parts.{stage_of};
 ghost use Rattle.path_rule.specs.Calls.{IsPast};
 ghost use Rattle.path_rule.specs.Flushes.{SeesNone, TakesNone};
 ghost use Rattle.path_rule.specs.Lasts.{shows_of};
-ghost use Rattle.path_rule.specs.Members.{view_of, part_of, hands_of, IsOf};
+ghost use Rattle.path_table.specs.Members.{view_of, part_of, hands_of, IsOf};
 ghost use Rattle.write_path.specs.FlushSteps.{RetiresEmpty, UnswitchedSteps};
 ghost use Rattle.write_path.specs.FlushTurns.{HoldsBoth};
 ghost use Rattle.write_path.specs.Tries.{Stays};
@@ -15,7 +15,7 @@ ghost use Rattle.write_path.specs.Tries.{Stays};
 use crate::seats::WritePath;
 use clog_base::Table;
 use path_core::Keeper;
-use path_rule::{Member, PathSeat};
+use path_table::{Member, PathSeat};
 use std::alloc::Allocator;
 
 impl<K: Keeper, A: Allocator> WritePath<K, A> {

@@ -5,8 +5,8 @@ ghost use Rattle.std.specs.Prelude.{◌≡◌, ◌≢◌, ◌<◌, ℕ, true, No
 ghost use Rattle.path_core.specs.declared.seat.Switching.TheVariants.{Settled};
 ghost use Rattle.path_core.specs.Parts.{stage_of};
 ghost use Rattle.path_rule.specs.Lasts.{shows_of};
-ghost use Rattle.path_rule.specs.Members.{view_of, part_of, hands_of, IsOf};
 ghost use Rattle.path_rule.specs.Switches.{FlushNewest, FlushOldest, MayBeginRead};
+ghost use Rattle.path_table.specs.Members.{view_of, part_of, hands_of, IsOf};
 ghost use Rattle.write_path.specs.FlushFilings.{
   FilingSteps,
   HasBoth,
@@ -23,7 +23,7 @@ use crate::flush_gathering::Gathered;
 use crate::seats::WritePath;
 use clog_base::Table;
 use path_core::Keeper;
-use path_rule::Member;
+use path_table::Member;
 use std::alloc::{Allocator, Global};
 use std::sync::Wait;
 

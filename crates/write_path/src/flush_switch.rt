@@ -3,8 +3,8 @@
 //! barrier: nothing more comes into that one.
 ghost use Rattle.std.specs.Prelude.{◌+◌, ◌<◌, MatchOption};
 ghost use Rattle.path_rule.specs.Lasts.{shows_of};
-ghost use Rattle.path_rule.specs.Members.{view_of, part_of, IsOf, KeepsBoxes};
 ghost use Rattle.path_rule.specs.Switches.{FlushNewest, FlushOldest};
+ghost use Rattle.path_table.specs.Members.{view_of, part_of, IsOf, KeepsBoxes};
 ghost use Rattle.write_path.specs.FlushTurns.{HoldsBoth, IsHolder};
 ghost use Rattle.write_path.specs.FlushSwitches.{MadeFinal, SwitchedTo, SwitchedNone};
 ghost use Rattle.write_path.specs.Tries.{Stays};
@@ -12,7 +12,7 @@ ghost use Rattle.write_path.specs.Tries.{Stays};
 use crate::seats::WritePath;
 use clog_base::{Key, Table};
 use path_core::{Keeper, Order};
-use path_rule::{Holder, Member};
+use path_table::{Holder, Member};
 use std::alloc::Allocator;
 use std::sync::Wait;
 

@@ -7,10 +7,10 @@ ghost use Rattle.path_core.specs.declared.event.Turn.TheVariants.{Flush};
 ghost use Rattle.path_core.specs.declared.seat.Switching.TheVariants.{Settled};
 ghost use Rattle.path_core.specs.Parts.{seat_table, stage_of};
 ghost use Rattle.path_rule.specs.Lasts.{shows_of};
-ghost use Rattle.path_rule.specs.Members.{view_of, part_of, hands_of, IsOf, Stepped};
 ghost use Rattle.path_rule.specs.Rounds.{RoundSteps};
 ghost use Rattle.path_rule.specs.Switches.{FlushNewest, FlushOldest, MayGiveFlush};
 ghost use Rattle.path_rule.specs.SyncAnswers.{KnowsMarker};
+ghost use Rattle.path_table.specs.Members.{view_of, part_of, hands_of, IsOf, Stepped};
 ghost use Rattle.write_path.specs.FlushSteps.{QuietSteps};
 ghost use Rattle.write_path.specs.FlushTurns.{
   FindsMemtables,
@@ -25,7 +25,7 @@ ghost use Rattle.write_path.specs.Tries.{Stays};
 use crate::seats::WritePath;
 use clog_base::Table;
 use path_core::Keeper;
-use path_rule::{Member, PathSeat};
+use path_table::{Member, PathSeat};
 use std::alloc::Allocator;
 use std::sync::Wait;
 use std::thread::yield_now;

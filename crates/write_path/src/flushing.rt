@@ -9,8 +9,8 @@ ghost use Rattle.std.specs.Prelude.{◌≡◌, ◌+◌, ◌<◌, ℕ, true, Some
 ghost use Rattle.path_core.specs.declared.seat.Switching.TheVariants.{Settled};
 ghost use Rattle.path_core.specs.Parts.{stage_of};
 ghost use Rattle.path_rule.specs.declared.view.View.{View};
-ghost use Rattle.path_rule.specs.Members.{view_of, part_of, IsOf};
 ghost use Rattle.path_rule.specs.Switches.{FlushNewest, FlushOldest};
+ghost use Rattle.path_table.specs.Members.{view_of, part_of, IsOf};
 ghost use Rattle.write_path.specs.Flushed.{Flushes, GotTurn};
 ghost use Rattle.write_path.specs.FlushSteps.{FindsAlone, QuietSteps, UnswitchedSteps};
 ghost use Rattle.write_path.specs.FlushTurns.{HoldsTable};
@@ -22,7 +22,7 @@ use crate::seats::WritePath;
 use crate::switch::Row;
 use clog_base::Table;
 use path_core::Keeper;
-use path_rule::{Member, PathSeat};
+use path_table::{Member, PathSeat};
 use std::alloc::{Allocator, Global};
 use std::sync::Wait;
 

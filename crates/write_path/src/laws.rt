@@ -46,9 +46,9 @@ ghost use Rattle.path_rule.specs.declared.view.OwnStep.{OwnStep};
 ghost use Rattle.path_rule.specs.declared.view.PathSize.{PathSize};
 ghost use Rattle.path_rule.specs.declared.view.View.{View};
 ghost use Rattle.path_rule.specs.FindsBounds.{FindsFinal, Retires};
-ghost use Rattle.path_rule.specs.Members.{view_of};
 ghost use Rattle.path_rule.specs.Reached.{Reaches};
 ghost use Rattle.path_rule.specs.Trails.{HoldsSome};
+ghost use Rattle.path_table.specs.Members.{view_of};
 ghost use Rattle.sync_core.specs.declared.SyncCore.TheVariants.{Batch};
 ghost use Rattle.write_path.specs.declared.commit.Commit.TheVariants.{Unsynced};
 ghost use Rattle.write_path.specs.declared.commit.Receipt.{Receipt};
@@ -56,7 +56,7 @@ ghost use Rattle.write_path.specs.declared.commit.SyncFault.TheVariants.{Rows as
 ghost use Rattle.write_path.specs.declared.flush.Flush.{Flush};
 ghost use Rattle.write_path.specs.declared.flush.Flush.TheVariants.{Flushed, Empty};
 ghost use Rattle.write_path.specs.declared.prepared.Prepared.{Prepared};
-ghost use Rattle.write_path.specs.ClosedFiles.{HasFlushed, IsGiven};
+ghost use Rattle.write_path.specs.ClosedFiles.{HasRetired, IsGiven};
 ghost use Rattle.write_path.specs.Closed.{IsOutcome, PassesNoSegment, all_writes};
 ghost use Rattle.write_path.specs.Commits.{IsLogged};
 ghost use Rattle.write_path.specs.Ends.{writes_of};
@@ -78,7 +78,7 @@ ghost use Rattle.write_path.specs.Syncs.{Syncs};
 ghost use Rattle.write_path.specs.Writes.{entry_size, IsNoteOf, IsClaimed, IsDepositable};
 
 use path_core::Keeper;
-use path_rule::PathSeat;
+use path_table::PathSeat;
 
 /// The note of a prepared write may be deposited once it is claimed.
 pub fn note_laws()
@@ -160,7 +160,7 @@ pub fn what_close_keeps<K: Keeper>()
     // lies in a table file of the keeper.
     ensures flushed { (size : PathSize) (seats : List (PathSeat K)) (end : ℕ) (h : Holding)
         → IsOutcome size seats end h → (s : PathSeat K) → Contains seats s
-        → (t : Table) (key : ℕ) (before : List OwnStep) → HasFlushed t key before
+        → (t : Table) (key : ℕ) (before : List OwnStep) → HasRetired t key before
         → HasGrown before (view_of s.member).trail → (other : PathSeat K) → Contains seats other
         → (n : EntryNote) → Contains (writes_of (view_of other.member).trail) n
         → IsTrue (touches n.tables t.0) → n.end.0 ≤ key → IsFiledIn h.files t.0 n.end.0 }

@@ -58,7 +58,8 @@ pub use laws::{
     note_laws, rows_need_many_writes, what_a_sync_reaches, what_close_keeps, what_seals_a_write,
     what_spends_a_path, where_a_log_begins,
 };
-pub use path_rule::{Advance, Begun, PathSeat, Seen, SyncAnswer};
+pub use path_rule::SyncAnswer;
+pub use path_table::{Advance, Begun, PathSeat, Seen};
 pub use prepared::Prepared;
 pub use seats::{Appending, WritePath};
 pub use switch::{Row, Switch};

@@ -29,7 +29,8 @@ use crate::resting::Resting;
 use crate::seats::WritePath;
 use clog_base::{OutOfMemory, Sizes};
 use path_core::Keeper;
-use path_rule::{Opener, PathSeat, PathSize, PathTable};
+use path_rule::PathSize;
+use path_table::{Opener, PathSeat, PathTable};
 use std::alloc::{Allocator, Global};
 use sync_core::SyncCore;
 
@@ -112,7 +113,7 @@ impl<K: Keeper + Drop> WritePath<K, Global> {
         ensures back { IfErr result (λ r. ShowsAsBefore (K.holds keeper) (K.holds r.0)) }
     {
         let size = size_for(files, sizes, base, keeper.at_open());
-        let (table, opener) = match path_rule::open(alloc, keeper, size) {
+        let (table, opener) = match path_table::open(alloc, keeper, size) {
             Ok(opened) => opened,
             Err(refused) => return Err(refused),
         };

@@ -23,15 +23,15 @@ ghost use Rattle.path_core.specs.Parts.{HoldsNoTurn};
 ghost use Rattle.path_rule.specs.declared.slot.Slot.TheVariants.{Notes};
 ghost use Rattle.path_rule.specs.Boxes.{box_of};
 ghost use Rattle.path_rule.specs.Calls.{Started};
-ghost use Rattle.path_rule.specs.Members.{view_of, IsOf, Stepped};
-ghost use Rattle.path_rule.specs.declared.table.Opener.{Opener};
+ghost use Rattle.path_table.specs.Members.{view_of, IsOf, Stepped};
+ghost use Rattle.path_table.specs.declared.table.Opener.{Opener};
 ghost use Rattle.write_path.specs.declared.resting.Resting.{Resting};
 ghost use Rattle.write_path.specs.Opened.{IsUnused};
 ghost use Rattle.write_path.specs.Tries.{Stays, Joined, OnlyLooked};
 
 use crate::resting::Resting;
 use path_core::Keeper;
-use path_rule::{Begun, Member, Opener, PathSeat, PathTable, Seen};
+use path_table::{Begun, Member, Opener, PathSeat, PathTable, Seen};
 use std::alloc::Allocator;
 use sync_core::SyncCore;
 

@@ -7,8 +7,8 @@ ghost use Rattle.path_core.specs.declared.seat.Switching.TheVariants.{Settled};
 ghost use Rattle.path_core.specs.Parts.{stage_of};
 ghost use Rattle.path_rule.specs.declared.view.View.{View};
 ghost use Rattle.path_rule.specs.Lasts.{shows_of};
-ghost use Rattle.path_rule.specs.Members.{view_of, part_of, hands_of, IsOf};
 ghost use Rattle.path_rule.specs.Switches.{FlushNewest, FlushOldest};
+ghost use Rattle.path_table.specs.Members.{view_of, part_of, hands_of, IsOf};
 ghost use Rattle.write_path.specs.FlushSteps.{QuietSteps, UnswitchedSteps};
 ghost use Rattle.write_path.specs.FlushTurns.{HoldsBoth, HoldsTable, IsDrained};
 ghost use Rattle.write_path.specs.Switched.{FindsFree, HadTurn, IsSettled, Switches};
@@ -19,7 +19,7 @@ use crate::seats::WritePath;
 use crate::switch::{Row, Switch};
 use clog_base::{Key, Table};
 use path_core::Keeper;
-use path_rule::{Member, PathSeat};
+use path_table::{Member, PathSeat};
 use std::alloc::{Allocator, Global};
 use std::sync::Wait;
 

@@ -6,9 +6,9 @@ ghost use Rattle.path_core.specs.declared.event.Event.TheVariants.{Look};
 ghost use Rattle.path_core.specs.declared.event.Place.TheVariants.{TurnWord};
 ghost use Rattle.path_core.specs.declared.event.Turn.TheVariants.{Sync, Flush};
 ghost use Rattle.path_rule.specs.Lasts.{shows_of};
-ghost use Rattle.path_rule.specs.Members.{view_of, IsOf, Stepped};
-ghost use Rattle.path_rule.specs.Passes.{HasMovedOn, MatchAdvance, RunsStill};
 ghost use Rattle.path_rule.specs.Rounds.{RoundSteps};
+ghost use Rattle.path_table.specs.Members.{view_of, IsOf, Stepped};
+ghost use Rattle.path_table.specs.Passes.{HasMovedOn, MatchAdvance, RunsStill};
 ghost use Rattle.write_path.specs.Tries.{Stays};
 ghost use Rattle.write_path.specs.Turned.{
   GaveTurn,
@@ -21,7 +21,7 @@ ghost use Rattle.write_path.specs.Turned.{
 use crate::seats::WritePath;
 use clog_base::Table;
 use path_core::{Keeper, Order, Turn};
-use path_rule::{Advance, Member, PathSeat};
+use path_table::{Advance, Member, PathSeat};
 use std::alloc::Allocator;
 
 /// A seat that has a turn, of which nothing is left half done: with the Sync turn no barrier is

@@ -2,7 +2,7 @@
 ghost use Rattle.std.specs.Prelude.{◌≡◌, ℕ, ◌+◌, ◌<◌};
 ghost use Rattle.clog_base.specs.declared.sizes.Sizes.{Sizes};
 ghost use Rattle.clog_mutation.specs.declared.mutation.Mutation.{Mutation};
-ghost use Rattle.path_rule.specs.Members.{view_of, IsOf};
+ghost use Rattle.path_table.specs.Members.{view_of, IsOf};
 ghost use Rattle.write_path.specs.Commits.{
   HasNoRoom,
   IsLogged,
@@ -19,7 +19,7 @@ use crate::seats::{Appending, WritePath};
 use clog_base::{Key, Writer};
 use clog_io::{Gate, Point};
 use path_core::Keeper;
-use path_rule::PathSeat;
+use path_table::PathSeat;
 use std::alloc::Allocator;
 use std::sync::Wait;
 

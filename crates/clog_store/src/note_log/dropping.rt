@@ -19,22 +19,27 @@ ghost use Rattle.clog_disk.specs.Images.{IsLater};
 ghost use Rattle.clog_crash.specs.Flush.{IsCovered};
 ghost use Rattle.clog_crash.specs.Sections.{segment_bytes};
 ghost use Rattle.path_core.specs.Keeper.{Holding};
-ghost use Rattle.clog_store.specs.Discarding.{DropsBy, DropsButOne, DropsFiles, IsWithin, fault_of};
-ghost use Rattle.clog_store.specs.Discards.{AreDroppable};
+ghost use Rattle.clog_segments.specs.Discarding.{
+  DropsBy,
+  DropsButOne,
+  DropsFiles,
+  IsWithin,
+  fault_of,
+};
+ghost use Rattle.clog_segments.specs.Discards.{AreDroppable};
 ghost use Rattle.clog_store.specs.Dropping.{AreDue};
-ghost use Rattle.clog_store.specs.Grows.{Writes};
-ghost use Rattle.clog_store.specs.Life.{Lives, LivesOn, ReadsAs, StandsHere};
-ghost use Rattle.clog_store.specs.NamesLast.{NamesGoOn};
-ghost use Rattle.clog_store.specs.NoteLog.{HasLog, IsNoteLog, LeavesOthers};
-ghost use Rattle.clog_store.specs.Stepped.{HasLogCause, Passes, StopsBy};
+ghost use Rattle.clog_segments.specs.Grows.{Writes};
+ghost use Rattle.clog_segments.specs.Life.{Lives, LivesOn, ReadsAs, StandsHere};
+ghost use Rattle.clog_segments.specs.NamesLast.{NamesGoOn};
+ghost use Rattle.clog_segments.specs.NoteLog.{HasLog, IsNoteLog, LeavesOthers};
+ghost use Rattle.clog_segments.specs.Stepped.{HasLogCause, Passes, StopsBy};
 ghost use Rattle.clog_store.specs.StoreDrops.{AreEarlier};
-ghost use Rattle.clog_store.specs.StoreFolder.{IsSound};
+ghost use Rattle.clog_segments.specs.StoreFolder.{IsSound};
 ghost use Rattle.clog_store.specs.StoreTakes.{StandsBehind};
 
 use crate::note_log::NoteLog;
-use crate::section_log::DropFault;
-use crate::written::StoreFault;
 use clog_disk::Disk;
+use clog_segments::{DropFault, StoreFault};
 use std::alloc::Global;
 
 fn is_among(numbers: &[u64], number: u64) -> bool

@@ -16,20 +16,20 @@ ghost use Rattle.std.specs.Prelude.{
 ghost use Rattle.clog_base.specs.Positions.{position_of};
 ghost use Rattle.clog_disk.specs.Images.{IsLater};
 ghost use Rattle.path_core.specs.Keys.{after};
-ghost use Rattle.clog_store.specs.Grows.{Writes};
-ghost use Rattle.clog_store.specs.Life.{Lives, LivesOn};
-ghost use Rattle.clog_store.specs.NamesLast.{NamesGoOn};
-ghost use Rattle.clog_store.specs.NoteLog.{BeginsFrom, IsShortOf, LeavesOthers};
+ghost use Rattle.clog_segments.specs.Grows.{Writes};
+ghost use Rattle.clog_segments.specs.Life.{Lives, LivesOn};
+ghost use Rattle.clog_segments.specs.NamesLast.{NamesGoOn};
+ghost use Rattle.clog_segments.specs.NoteLog.{BeginsFrom, IsShortOf, LeavesOthers};
 ghost use Rattle.clog_store.specs.NoteSteps.{Enters, GoesOn};
-ghost use Rattle.clog_store.specs.Stepped.{HasLogCause, StopsBy};
-ghost use Rattle.clog_store.specs.StoreFolder.{EndsWithin, IsSound};
+ghost use Rattle.clog_segments.specs.Stepped.{HasLogCause, StopsBy};
+ghost use Rattle.clog_segments.specs.StoreFolder.{EndsWithin, IsSound};
 ghost use Rattle.clog_store.specs.StoreTakes.{StillTakes};
 
 use crate::note_log::NoteLog;
 use crate::note_steps::enter;
-use crate::written::StoreFault;
 use clog_base::{Key, MARKER_SIZE};
 use clog_disk::Disk;
+use clog_segments::StoreFault;
 
 impl<D: Disk> NoteLog<D> {
     /// The log goes on in the segment of an id, for no note: it is there already, or all of it is

@@ -15,11 +15,11 @@ ghost use Rattle.std.specs.Prelude.{
 };
 ghost use Rattle.clog_spec.specs.Names.{table_name_of};
 ghost use Rattle.clog_disk.specs.Files.{SameTold};
-ghost use Rattle.clog_store.specs.AtMost.{IsNextWithin};
-ghost use Rattle.clog_store.specs.Beside.{StayButOne};
-ghost use Rattle.clog_store.specs.NoteLog.{IsNoteLog};
+ghost use Rattle.clog_segments.specs.AtMost.{IsNextWithin};
+ghost use Rattle.clog_segments.specs.Beside.{StayButOne};
+ghost use Rattle.clog_segments.specs.NoteLog.{IsNoteLog};
 ghost use Rattle.clog_store.specs.NoteSteps.{GoesOn};
-ghost use Rattle.clog_store.specs.Publishes.{
+ghost use Rattle.clog_segments.specs.Publishes.{
   HasCome,
   IsNextSequence,
   IsNumbered,
@@ -27,19 +27,20 @@ ghost use Rattle.clog_store.specs.Publishes.{
   MayHaveCome,
   file_at,
 };
-ghost use Rattle.clog_store.specs.Stepped.{HasLogCause, Passes, StopsBy};
-ghost use Rattle.clog_store.specs.declared.written.StoreFault.TheVariants.{
+ghost use Rattle.clog_segments.specs.Stepped.{HasLogCause, Passes, StopsBy};
+ghost use Rattle.clog_segments.specs.declared.written.StoreFault.TheVariants.{
   OutOfMemory as no_memory,
   Stopped as stopped,
 };
 
-use crate::naming::GREATEST_SEQUENCE;
 use crate::note_log::NoteLog;
-use crate::publishing::Published;
-use crate::written::StoreFault;
 use clog_base::Table;
 use clog_cells::CellMap;
 use clog_disk::Disk;
+use clog_segments::{Published, StoreFault};
+
+/// The greatest sequence that a name can have.
+const GREATEST_SEQUENCE: u64 = 9_223_372_036_854_775_807;
 
 // The sequence behind the greatest one, where a name can have it.
 fn next_behind(greatest: u64) -> Result<u64, StoreFault>

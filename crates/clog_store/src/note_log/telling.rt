@@ -1,7 +1,7 @@
 //! What a log of notes tells of itself: its sizes, the entries that it has made lasting, and those
 //! that it keeps.
 ghost use Rattle.std.specs.Prelude.{◌≡◌};
-ghost use Rattle.clog_store.specs.NoteLog.{IsNoteLog};
+ghost use Rattle.clog_segments.specs.NoteLog.{IsNoteLog};
 
 use crate::note_log::NoteLog;
 use clog_base::Sizes;

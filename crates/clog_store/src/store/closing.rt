@@ -4,15 +4,15 @@ ghost use Rattle.clog_io.specs.Causes.{Rose};
 ghost use Rattle.clog_disk.specs.Files.{Files};
 ghost use Rattle.clog_disk.specs.Images.{IsLater};
 ghost use Rattle.clog_crash.specs.Sections.{IsStored};
-ghost use Rattle.clog_store.specs.Life.{LastsHere, LastsNow, ShownSince, StandsHere};
-ghost use Rattle.clog_store.specs.NamesLast.{NamesLast};
-ghost use Rattle.clog_store.specs.NoteLog.{IsNoteLog};
-ghost use Rattle.clog_store.specs.StoreFailed.{AllStay};
-ghost use Rattle.clog_store.specs.StoreFolder.{IsSound};
-ghost use Rattle.clog_store.specs.StoreImages.{MostSince, OpensSince, TablesSince};
+ghost use Rattle.clog_segments.specs.Life.{LastsHere, LastsNow, ShownSince, StandsHere};
+ghost use Rattle.clog_segments.specs.NamesLast.{NamesLast};
+ghost use Rattle.clog_segments.specs.NoteLog.{IsNoteLog};
+ghost use Rattle.clog_segments.specs.StoreFailed.{AllStay};
+ghost use Rattle.clog_segments.specs.StoreFolder.{IsSound};
+ghost use Rattle.clog_segments.specs.StoreImages.{MostSince, OpensSince, TablesSince};
 ghost use Rattle.clog_store.specs.StoreNames.{RowsLast};
-ghost use Rattle.clog_store.specs.StoreOrder.{AreSettled};
-ghost use Rattle.clog_store.specs.StoreState.{
+ghost use Rattle.clog_segments.specs.StoreOrder.{AreSettled};
+ghost use Rattle.clog_segments.specs.StoreState.{
   AppendsAlone,
   HasGrown,
   HasOrdered,

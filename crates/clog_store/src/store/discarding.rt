@@ -18,10 +18,10 @@ ghost use Rattle.std.specs.Prelude.{
 };
 ghost use Rattle.clog_disk.specs.Images.{IsLater};
 ghost use Rattle.path_core.specs.Keeper.{DropRefused, Drops, HasKeeperCause};
-ghost use Rattle.clog_store.specs.Discarding.{IsWithin, fault_of};
-ghost use Rattle.clog_store.specs.Life.{Lives, LivesOn};
-ghost use Rattle.clog_store.specs.NoteLog.{IsNoteLog};
-ghost use Rattle.clog_store.specs.Stepped.{HasLogCause, StopsBy};
+ghost use Rattle.clog_segments.specs.Discarding.{IsWithin, fault_of};
+ghost use Rattle.clog_segments.specs.Life.{Lives, LivesOn};
+ghost use Rattle.clog_segments.specs.NoteLog.{IsNoteLog};
+ghost use Rattle.clog_segments.specs.Stepped.{HasLogCause, StopsBy};
 ghost use Rattle.clog_store.specs.StoreDrops.{
   AreDueIn,
   AreEarlier,
@@ -30,14 +30,13 @@ ghost use Rattle.clog_store.specs.StoreDrops.{
   archived_by,
   dropped_by,
 };
-ghost use Rattle.clog_store.specs.StoreState.{HasMoved, holding_of};
+ghost use Rattle.clog_segments.specs.StoreState.{HasMoved, holding_of};
 ghost use Rattle.clog_store.specs.StoreTakes.{StandsBehind, TakesBehind};
 
-use crate::section_log::DropFault;
 use crate::store::{Store, told};
-use crate::written::StoreFault;
 use clog_base::OutOfMemory;
 use clog_disk::Disk;
+use clog_segments::{DropFault, StoreFault};
 use path_core::KeeperFault;
 use std::alloc::AllocError;
 

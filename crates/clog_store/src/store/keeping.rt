@@ -6,7 +6,7 @@ use clog_disk::Disk;
 use path_core::{EntryNote, Keeper, KeeperFault};
 
 impl<D: Disk> Keeper for Store<D> {
-    ghost use Rattle.clog_store.specs.StoreState.{holding_of};
+    ghost use Rattle.clog_segments.specs.StoreState.{holding_of};
 
     ghost holds = { λ s. holding_of D.files D.changes D.moment D.faults D.row.coded.code s };
 

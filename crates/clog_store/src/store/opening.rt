@@ -4,9 +4,9 @@ ghost use Rattle.clog_disk.specs.Files.{Files, SameTold, Told};
 ghost use Rattle.clog_disk.specs.Images.{IsLater, LastsAll, LeavesOnly};
 ghost use Rattle.clog_folder.specs.Passing.{IsUntouched, TellsFault};
 ghost use Rattle.path_core.specs.Keeper.{IsFresh};
-ghost use Rattle.clog_store.specs.Filing.{AreRecoveryPuts, ComesFrom};
-ghost use Rattle.clog_store.specs.Life.{Lives};
-ghost use Rattle.clog_store.specs.Opened.{
+ghost use Rattle.clog_segments.specs.Filing.{AreRecoveryPuts, ComesFrom};
+ghost use Rattle.clog_segments.specs.Life.{Lives};
+ghost use Rattle.clog_segments.specs.Opened.{
   KeepsFolder,
   LeftAlone,
   OpenRefused,
@@ -15,16 +15,16 @@ ghost use Rattle.clog_store.specs.Opened.{
   RecoversAll,
   RecoversFirst,
 };
-ghost use Rattle.clog_store.specs.StoreFolder.{HoldsStore, fresh_log, no_deeds};
-ghost use Rattle.clog_store.specs.StoreState.{HandsOver, holding_of, store_over};
+ghost use Rattle.clog_segments.specs.StoreFolder.{HoldsStore, fresh_log, no_deeds};
+ghost use Rattle.clog_segments.specs.StoreState.{HandsOver, holding_of, store_over};
 ghost use Rattle.clog_store.specs.StoreTakes.{TakesNext};
 
 use crate::note_log::NoteLog;
-use crate::section_log::SectionLog;
 use crate::store::Store;
 use clog_base::Sizes;
 use clog_disk::Disk;
 use clog_folder::OpenFault;
+use clog_segments::SectionLog;
 use std::alloc::Global;
 
 impl<D: Disk> Store<D> {

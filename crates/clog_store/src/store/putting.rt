@@ -8,12 +8,12 @@ ghost use Rattle.path_core.specs.Keeper.{
   Publishes,
 };
 ghost use Rattle.path_core.specs.Keys.{after};
-ghost use Rattle.clog_store.specs.Life.{Lives, LivesOn};
-ghost use Rattle.clog_store.specs.NoteLog.{IsNoteLog};
+ghost use Rattle.clog_segments.specs.Life.{Lives, LivesOn};
+ghost use Rattle.clog_segments.specs.NoteLog.{IsNoteLog};
 ghost use Rattle.clog_store.specs.NoteSteps.{GoesOn};
-ghost use Rattle.clog_store.specs.Publishes.{IsNextSequence};
-ghost use Rattle.clog_store.specs.Stepped.{IsQuiet};
-ghost use Rattle.clog_store.specs.StoreState.{
+ghost use Rattle.clog_segments.specs.Publishes.{IsNextSequence};
+ghost use Rattle.clog_segments.specs.Stepped.{IsQuiet};
+ghost use Rattle.clog_segments.specs.StoreState.{
   HasMoved,
   HasReached,
   holding_of,
@@ -21,12 +21,11 @@ ghost use Rattle.clog_store.specs.StoreState.{
 };
 ghost use Rattle.clog_store.specs.StoreTakes.{GoesOnTaking};
 
-use crate::publishing::Published;
 use crate::store::{Store, StoredFile, told};
-use crate::written::StoreFault;
 use clog_base::{Key, Table};
 use clog_cells::CellMap;
 use clog_disk::Disk;
+use clog_segments::{Published, StoreFault};
 use path_core::KeeperFault;
 use std::snapshot::Snapshot;
 

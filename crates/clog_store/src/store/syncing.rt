@@ -2,9 +2,9 @@
 ghost use Rattle.std.specs.Prelude.{◌≡◌, OnErr, OnOk, false, true};
 ghost use Rattle.clog_disk.specs.Images.{IsLater};
 ghost use Rattle.path_core.specs.Keeper.{HasKeeperCause, MaySync, SyncRefused, Syncs};
-ghost use Rattle.clog_store.specs.Life.{AllLasts, Lives, LivesOn};
-ghost use Rattle.clog_store.specs.NoteLog.{IsNoteLog};
-ghost use Rattle.clog_store.specs.StoreState.{holding_of};
+ghost use Rattle.clog_segments.specs.Life.{AllLasts, Lives, LivesOn};
+ghost use Rattle.clog_segments.specs.NoteLog.{IsNoteLog};
+ghost use Rattle.clog_segments.specs.StoreState.{holding_of};
 ghost use Rattle.clog_store.specs.StoreTakes.{GoesOnTaking};
 
 use crate::store::{Store, told};

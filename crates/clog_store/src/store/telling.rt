@@ -13,12 +13,12 @@ ghost use Rattle.std.specs.Prelude.{
 ghost use Rattle.clog_io.specs.Causes.{Rose};
 ghost use Rattle.clog_spec.specs.Sizes.{most_tables};
 ghost use Rattle.path_core.specs.Keeper.{upper_from};
-ghost use Rattle.clog_store.specs.NoteLog.{IsNoteLog};
+ghost use Rattle.clog_segments.specs.NoteLog.{IsNoteLog};
 
-use crate::publishing::Published;
 use crate::store::{Store, StoredFile};
 use clog_base::{Key, Sizes};
 use clog_disk::Disk;
+use clog_segments::Published;
 use path_core::EntryNote;
 
 // The last keys of tables get that of one file more.

@@ -33,10 +33,10 @@ ghost use Rattle.clog_store.specs.Dropping.{
 ghost use Rattle.clog_store.specs.HullRows.{hull_at};
 
 use crate::hulls::Hulls;
-use crate::publishing::Published;
 use crate::store::StoredFile;
 use clog_base::{Key, OutOfMemory, Position, Table};
 use clog_intervals::Cleans;
+use clog_segments::Published;
 use path_core::EntryNote;
 
 // ---- what files hold of a table's log

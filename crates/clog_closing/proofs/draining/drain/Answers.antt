@@ -1,6 +1,6 @@
 use Rattle.std.proofs.Common.{Result, subst}
 use Rattle.path_core.specs.declared.keeper.KeeperFault.{KeeperFault}
-use Rattle.clog_store.proofs.Outcomes.{ok_then}
+use Rattle.clog_segments.proofs.Outcomes.{ok_then}
 use Rattle.clog_closing.specs.Drained.{HasGoneOn, held_in}
 use Rattle.clog_closing.proofs.Going.{gone_on}
 use Rattle.clog_closing.proofs.Good.{drains as drains_by}

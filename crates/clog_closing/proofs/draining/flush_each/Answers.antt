@@ -5,7 +5,7 @@ use Rattle.path_core.specs.Keeper.{HasKeeperCause, Holding}
 use Rattle.clog_memtable.specs.declared.flushing.Memtable.{Memtable}
 use Rattle.clog_memtable.specs.Flushing.{HasPutFiles, file_of, files_of}
 use Rattle.clog_memtable.proofs.Flushed.{next_may, nothing_put, one_more, refused_behind}
-use Rattle.clog_store.proofs.Lived.{lives_further, lives_still}
+use Rattle.clog_segments.proofs.Lived.{lives_further, lives_still}
 use Rattle.clog_closing.specs.Drained.{held_in}
 use Rattle.clog_closing.proofs.Begins.{begun_put}
 use Rattle.clog_closing.proofs.Going.{ends_by, keeps_put}

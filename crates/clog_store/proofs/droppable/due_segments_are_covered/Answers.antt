@@ -1,4 +1,4 @@
-use Rattle.clog_store.proofs.OnDisk.{due_is_covered}
+use Rattle.clog_segments.proofs.OnDisk.{due_is_covered}
 use Rattle.clog_store.proofs.droppable.due_segments_are_covered.Goals as goal
 
 pub returns : goal.returns

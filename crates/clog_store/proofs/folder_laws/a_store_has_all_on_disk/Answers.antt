@@ -1,6 +1,6 @@
 use Rattle.std.proofs.Common.{refl}
-use Rattle.clog_store.specs.StoreFolder.{deeds_of}
-use Rattle.clog_store.proofs.FolderReads.{all_on_disk}
+use Rattle.clog_segments.specs.StoreFolder.{deeds_of}
+use Rattle.clog_segments.proofs.FolderReads.{all_on_disk}
 use Rattle.clog_store.proofs.folder_laws.a_store_has_all_on_disk.Goals as goal
 
 pub returns : goal.returns

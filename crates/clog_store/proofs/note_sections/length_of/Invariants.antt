@@ -1,5 +1,5 @@
 use Rattle.std.proofs.Common.{◌≡◌, ◌+◌, drop, length}
-use Rattle.clog_store.specs.NoteSections.{bytes_in}
+use Rattle.clog_segments.specs.NoteSections.{bytes_in}
 use Rattle.clog_store.proofs.note_sections.length_of.Given as goal
 
 abbrev pub invariant-loop-note : goal.invariant-loop-note

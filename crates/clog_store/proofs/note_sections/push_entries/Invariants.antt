@@ -1,5 +1,5 @@
 use Rattle.std.proofs.Common.{◌≡◌, ◌++◌, drop}
-use Rattle.clog_store.specs.NoteSections.{bytes_in}
+use Rattle.clog_segments.specs.NoteSections.{bytes_in}
 use Rattle.clog_store.proofs.note_sections.push_entries.Given as goal
 
 abbrev pub invariant-loop-note : goal.invariant-loop-note

@@ -3,12 +3,12 @@ use Rattle.clog_base.specs.declared.position.Position.{Position}
 use Rattle.clog_base.specs.Positions.{offset_of}
 use Rattle.clog_scan.specs.Cut.{Section}
 use Rattle.clog_crash.specs.Sections.{next_bytes}
-use Rattle.clog_store.specs.NoteSections.{bytes_in, first_start, size_before}
-use Rattle.clog_store.specs.Stepped.{Keeps}
+use Rattle.clog_segments.specs.NoteSections.{bytes_in, first_start, size_before}
+use Rattle.clog_segments.specs.Stepped.{Keeps}
 use Rattle.clog_store.proofs.NoteGoes.{goes_still, kept_opened}
 use Rattle.clog_store.proofs.NoteGrows.{spells}
 use Rattle.clog_store.proofs.NoteLeaves.{leaves_kept, leaves_same}
-use Rattle.clog_store.proofs.NoteRuns.{brings, first_is, next_is, room, some_payloads}
+use Rattle.clog_segments.proofs.NoteRuns.{brings, first_is, next_is, room, some_payloads}
 use Rattle.clog_store.proofs.note_steps.keep_notes.Goals as goal
 
 pub section_of-requires-clause-room : goal.section_of-requires-clause-room

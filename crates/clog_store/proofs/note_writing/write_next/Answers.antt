@@ -3,9 +3,9 @@ use Rattle.std.specs.Prelude.{Err, Ok}
 use Rattle.clog_base.specs.declared.position.Position.{Position}
 use Rattle.clog_crash.specs.Sections.{next_section}
 use Rattle.path_core.specs.declared.note.EntryNote.{EntryNote}
-use Rattle.clog_store.specs.NoteSections.{AreOneSection, MayBeNext, payloads_in}
+use Rattle.clog_segments.specs.NoteSections.{AreOneSection, MayBeNext, payloads_in}
 use Rattle.clog_store.specs.NoteSteps.{Enters}
-use Rattle.clog_store.specs.Stepped.{Keeps}
+use Rattle.clog_segments.specs.Stepped.{Keeps}
 use Rattle.clog_store.proofs.NoteGoes.{goes_then}
 use Rattle.clog_store.proofs.NoteLeaves.{leaves_then}
 use Rattle.clog_store.proofs.NoteNext.{

@@ -1,4 +1,4 @@
-use Rattle.clog_store.proofs.Noted.{tells_its_place}
+use Rattle.clog_segments.proofs.Noted.{tells_its_place}
 use Rattle.clog_store.proofs.noting.a_note_tells_its_place.Goals as goal
 
 pub returns : goal.returns

@@ -1,4 +1,4 @@
-use Rattle.clog_store.proofs.Noted.{runs_of}
+use Rattle.clog_segments.proofs.Noted.{runs_of}
 use Rattle.clog_store.proofs.noting.notes_are_runs.Goals as goal
 
 pub returns : goal.returns

@@ -3,7 +3,7 @@ use Rattle.std.specs.Prelude.{Contains}
 use Rattle.std.proofs.lemmas.List.Elements.{Contains-append_left}
 use Rattle.clog_memtable.specs.declared.flushing.Memtable.{Memtable}
 use Rattle.clog_memtable.specs.Flushing.{MayFlush, file_of}
-use Rattle.clog_store.specs.StoreState.{holding_of}
+use Rattle.clog_segments.specs.StoreState.{holding_of}
 use Rattle.clog_layout.specs.Ends.{synced_to}
 use Rattle.clog_closing.specs.Beside.{HoldsNote}
 use Rattle.clog_closing.specs.Drained.{Drains, ReachTo}

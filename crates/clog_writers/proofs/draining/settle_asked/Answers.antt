@@ -1,7 +1,7 @@
 use Rattle.std.proofs.Common.{sym, ◌∙◌}
 use Rattle.std.proofs.lemmas.Bool.{true≢false}
 use Rattle.std.proofs.lemmas.List.Elements.{Contains-append_left}
-use Rattle.clog_store.specs.StoreState.{holding_of}
+use Rattle.clog_segments.specs.StoreState.{holding_of}
 use Rattle.clog_writers.proofs.Settling.{unasked}
 use Rattle.clog_writers.proofs.Told.{none_of}
 use Rattle.clog_writers.proofs.draining.settle_asked.Goals as goal

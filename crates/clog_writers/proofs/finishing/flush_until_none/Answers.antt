@@ -1,5 +1,5 @@
 use Rattle.std.proofs.Common.{ℕ, Some, refl, sym, ◌∙◌, subst}
-use Rattle.path_rule.specs.Members.{view_of}
+use Rattle.path_table.specs.Members.{view_of}
 use Rattle.clog_writers.specs.declared.fault.WriteFault.{WriteFault}
 use Rattle.clog_writers.specs.Crews.{KnowsWhy}
 use Rattle.clog_writers.specs.Tallied.{ArePaid}

@@ -1,5 +1,5 @@
 use Rattle.std.proofs.Common.{◌≡◌}
-use Rattle.path_rule.specs.Members.{view_of}
+use Rattle.path_table.specs.Members.{view_of}
 use Rattle.write_path.specs.Commits.{KeepsList}
 use Rattle.clog_writers.specs.Tallies.{Tallies}
 use Rattle.clog_writers.proofs.finishing.flush_until_none.Given as goal

@@ -1,4 +1,4 @@
-use Rattle.path_rule.specs.Members.{view_of}
+use Rattle.path_table.specs.Members.{view_of}
 use Rattle.clog_writers.proofs.Tallying.{may_paid}
 use Rattle.clog_writers.proofs.flushing.flush_due.Goals as goal
 

@@ -1,6 +1,6 @@
 use Rattle.std.proofs.Common.{ℕ, Some, length, refl, sym, ◌∙◌, subst, arith}
 use Rattle.std.proofs.lemmas.Option.{none-some}
-use Rattle.path_rule.specs.Members.{view_of}
+use Rattle.path_table.specs.Members.{view_of}
 use Rattle.write_path.proofs.Growing.{no_shorter}
 use Rattle.clog_writers.specs.declared.tally.UpdateTally.{UpdateTally}
 use Rattle.clog_writers.specs.Tallied.{ArePaid}

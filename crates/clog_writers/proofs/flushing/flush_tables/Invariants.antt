@@ -1,6 +1,6 @@
 use Rattle.std.proofs.Common.{◌≡◌, ◌<◌, ◌≤◌, ℕ, length}
 use Rattle.clog_spec.specs.Sizes.{most_tables}
-use Rattle.path_rule.specs.Members.{view_of}
+use Rattle.path_table.specs.Members.{view_of}
 use Rattle.write_path.specs.Commits.{KeepsList}
 use Rattle.clog_writers.specs.Tallies.{IsNotDue, IsTried, Tallies}
 use Rattle.clog_writers.proofs.flushing.flush_tables.Given as goal

@@ -1,8 +1,8 @@
 use Rattle.std.proofs.Common.{ap, ◌∙◌, subst}
 use Rattle.path_core.specs.Keeper.{Holding}
 use Rattle.path_rule.specs.declared.lasting.Lasting.{Lasting}
-use Rattle.path_rule.specs.declared.table.PathTable.{PathTable}
 use Rattle.path_rule.specs.declared.view.PathSize.{PathSize}
+use Rattle.path_table.specs.declared.table.PathTable.{PathTable}
 use Rattle.write_path.specs.Closed.{StaysBeside}
 use Rattle.clog_writers.proofs.Apart.{none_apart}
 use Rattle.clog_writers.proofs.FirstLogged.{none_written}

@@ -21,7 +21,7 @@ use Rattle.std.proofs.lemmas.List.Elements.{Contains-append_cases}
 use Rattle.std.specs.Vec.{vec_len}
 use Rattle.clog_base.proofs.Members.{first_or_further, further, here, nothing_there, only_one}
 use Rattle.clog_applied.specs.History.{share_of}
-use Rattle.path_rule.specs.declared.trying.PathSeat.{PathSeat}
+use Rattle.path_table.specs.declared.trying.PathSeat.{PathSeat}
 use Rattle.clog_writers.specs.declared.worker.Worker.{Worker}
 use Rattle.clog_writers.specs.Sealing.{HasWaited}
 use Rattle.clog_writers.specs.Shares.{LacksMemoryAtMost}

@@ -30,7 +30,7 @@ use Rattle.clog_applied.specs.History.{Line}
 use Rattle.clog_notes.proofs.TableSets.{joined_holds}
 use Rattle.path_core.specs.declared.note.EntryNote.{EntryNote}
 use Rattle.path_rule.specs.declared.view.OwnStep.{OwnStep}
-use Rattle.write_path.specs.ClosedFiles.{HasFlushed}
+use Rattle.write_path.specs.ClosedFiles.{HasRetired}
 use Rattle.clog_writers.specs.Shares.{AreWritesOf, IsWriteOf}
 use Rattle.clog_writers.specs.Tallied.{IsFlushedOver, IsTallied, updates_for}
 use Rattle.clog_writers.specs.WorkedTally.{flushed_one, logged_one, the_line, the_note}
@@ -119,7 +119,7 @@ end_of (n ∷ ns) = n.end.0
 
 -- where the table is known to be flushed to no key at or above the note's end, its update is left
 left_of : (trail : List OwnStep)
-    → ((key : ℕ) → HasFlushed (record { 0 = 0 }) key trail → key < 60)
+    → ((key : ℕ) → HasRetired (record { 0 = 0 }) key trail → key < 60)
     → (early late : List EntryNote) (rest : List Line) → the_note ∷ [] ≡ early ++ late
     → (early ≡ []) ⊎ IsFlushedOver 0 early trail → AreWritesOf 0 rest late
     → 0 ≡ updates_for 0 rest → ⊥
@@ -137,7 +137,7 @@ left_of trail low (n ∷ ns) late rest parts (inr F) are none =
     omega (arith, end, covered, few)
 
 left_over : (trail : List OwnStep)
-    → ((key : ℕ) → HasFlushed (record { 0 = 0 }) key trail → key < 60)
+    → ((key : ℕ) → HasRetired (record { 0 = 0 }) key trail → key < 60)
     → IsTallied 1 0 0 0 (the_note ∷ []) trail → ⊥
 left_over trail low T =
     left_of trail low T.early T.late T.rest T.parts T.flushed T.are_late T.counted

@@ -18,7 +18,7 @@ use Rattle.std.proofs.lemmas.Option.{none-some}
 use Rattle.clog_base.proofs.Members.{nothing_there}
 use Rattle.path_core.specs.declared.note.EntryNote.{EntryNote}
 use Rattle.path_rule.specs.declared.view.OwnStep.{OwnStep}
-use Rattle.path_rule.specs.Members.{view_of}
+use Rattle.path_table.specs.Members.{view_of}
 use Rattle.write_path.specs.declared.prepared.Prepared.{Prepared}
 use Rattle.write_path.specs.Ends.{writes_of}
 use Rattle.clog_writers.specs.declared.fault.WriteFault.{WriteFault}

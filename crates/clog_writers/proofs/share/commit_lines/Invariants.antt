@@ -1,6 +1,6 @@
 use Rattle.std.proofs.Common.{◌≡◌, ℕ, List, length}
 use Rattle.clog_applied.specs.History.{Line}
-use Rattle.path_rule.specs.Members.{view_of}
+use Rattle.path_table.specs.Members.{view_of}
 use Rattle.sync_core.specs.declared.SyncCore.TheVariants.{Batch, Periodic}
 use Rattle.write_path.specs.Ends.{writes_of}
 use Rattle.write_path.specs.Tries.{Stays}

@@ -1,6 +1,6 @@
 use Rattle.std.proofs.Common.{ℕ, refl, sym, ap, ◌∙◌, subst}
 use Rattle.std.proofs.lemmas.Option.{same_Some}
-use Rattle.path_rule.specs.declared.trying.PathSeat.{PathSeat}
+use Rattle.path_table.specs.declared.trying.PathSeat.{PathSeat}
 use Rattle.clog_writers.specs.Sealing.{HasWaited}
 use Rattle.clog_writers.specs.Shares.{ArePrepared, LogsShare, logged_by}
 use Rattle.clog_writers.specs.Timed.{HasTimed}

@@ -1,6 +1,6 @@
 use Rattle.std.proofs.Common.{◌/◌, ◌≤◌, Option, None, sym, ◌∙◌, subst, arith}
 use Rattle.std.proofs.lemmas.Option.{none-some}
-use Rattle.path_rule.specs.Members.{view_of}
+use Rattle.path_table.specs.Members.{view_of}
 use Rattle.sync_core.specs.declared.SyncCore.{SyncCore}
 use Rattle.write_path.specs.Receipts.{IsCommitted}
 use Rattle.clog_writers.specs.declared.fault.WriteFault.{WriteFault}

@@ -8,13 +8,13 @@ use Rattle.clog_io.specs.Causes.{Rose}
 use Rattle.path_core.specs.declared.note.EntryNote.{EntryNote}
 use Rattle.path_core.specs.Keeper.{Holding, IsFresh}
 use Rattle.clog_closing.specs.Gaps.{StandApart}
-use Rattle.clog_store.specs.Life.{lasting_in}
-use Rattle.clog_store.specs.StoreState.{holding_of}
+use Rattle.clog_segments.specs.Life.{lasting_in}
+use Rattle.clog_segments.specs.StoreState.{holding_of}
 use Rattle.clog_closing.proofs.Fresh.{is_fresh}
 use Rattle.write_path.specs.declared.commit.Receipt.{Receipt}
 use Rattle.clog_writers.specs.Left.{WritesShares, least_of}
 use Rattle.clog_writers.specs.Placed.{AreAtTheirLines}
-use Rattle.clog_writers.specs.Written.{HasReceipts, IsAskedBy, TellsWrittenShares}
+use Rattle.clog_writers.specs.Written.{HasReceipts, AsksFor, TellsWrittenShares}
 use Rattle.clog_writers.proofs.Brought.{
   begun_on,
   brings_only,
@@ -301,10 +301,10 @@ returns-clause-written g c = λ ms options opened made plan asked is made_is.
     (λ batch. subst (λ (l : List EntryNote). StandApart c.args.sizes.capacity l)
     (sym (ap (λ (h : Holding). h.logged) settled.keeps))
     (c.log_shares-store.ensures.apart batch)) options
-    (subst (λ (x : Bool). IsAskedBy options c.args.sizes c.args.syncing.mode f x c.args.drain)
+    (subst (λ (x : Bool). AsksFor options c.args.sizes c.args.syncing.mode f x c.args.drain)
     (sym (its_archives D.files D.changes D.moment D.faults g.row.D.coded a b e f c.requires.fresh
     shares.beside settled.keeps settled.first))
-    (subst (λ (z : Sizes). IsAskedBy options z c.args.syncing.mode f a.archives c.args.drain)
+    (subst (λ (z : Sizes). AsksFor options z c.args.syncing.mode f a.archives c.args.drain)
     (sym c.requires.sizes) asked)) xs placed (lent ∙ plan.receipts) opened made
     (ap D.files its ∙ is) (ap D.changes its ∙ made_is)))))
 

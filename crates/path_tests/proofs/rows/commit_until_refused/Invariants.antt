@@ -1,4 +1,4 @@
-use Rattle.path_rule.specs.Members.{IsOf}
+use Rattle.path_table.specs.Members.{IsOf}
 use Rattle.path_tests.proofs.rows.commit_until_refused.Given as goal
 
 -- the seat is the path's still

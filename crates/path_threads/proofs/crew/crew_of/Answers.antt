@@ -3,7 +3,7 @@ use Rattle.std.proofs.Common.{subst, arith}
 use Rattle.std.specs.List.{All, range_with_len}
 use Rattle.std.proofs.lemmas.List.{append-nil, nil_from_length}
 use Rattle.std.proofs.lemmas.List.Elements.{All-append, All-nil, All-cons, All-head, All-tail}
-use Rattle.path_rule.specs.declared.trying.PathSeat.{PathSeat}
+use Rattle.path_table.specs.declared.trying.PathSeat.{PathSeat}
 use Rattle.write_path.specs.Opened.{IsNewSeat, numbers_of}
 use Rattle.path_threads.specs.declared.worker.Worker.{Worker}
 use Rattle.path_threads.specs.Crews.{IsSeated, number_of}

@@ -1,6 +1,6 @@
 use Rattle.std.proofs.Common.{◌≡◌, ℕ, ◌<◌, length, get_or, Option, sym, ap, ◌∙◌, subst, arith}
 use Rattle.std.specs.Option.{option_map_or}
-use Rattle.path_rule.specs.declared.trying.PathSeat.{PathSeat}
+use Rattle.path_table.specs.declared.trying.PathSeat.{PathSeat}
 use Rattle.path_threads.specs.declared.worker.Worker.{Worker}
 use Rattle.path_threads.specs.Crews.{AreWrites}
 use Rattle.path_threads.proofs.Crews.{same_numbers}

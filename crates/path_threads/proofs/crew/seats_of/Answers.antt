@@ -2,8 +2,8 @@ use Rattle.std.proofs.Common.{◌≡◌, ◌++◌, ◌∷◌, [], List, map, len
 use Rattle.std.specs.List.{All, range_with_len}
 use Rattle.std.proofs.lemmas.List.{append-nil, nil_from_length}
 use Rattle.std.proofs.lemmas.List.Elements.{All-append, All-nil, All-cons, All-head, All-tail}
-use Rattle.path_rule.specs.declared.trying.PathSeat.{PathSeat}
-use Rattle.path_rule.specs.Members.{IsOf}
+use Rattle.path_table.specs.declared.trying.PathSeat.{PathSeat}
+use Rattle.path_table.specs.Members.{IsOf}
 use Rattle.write_path.specs.Closed.{AreOf}
 use Rattle.write_path.specs.Opened.{numbers_of}
 use Rattle.path_threads.specs.declared.worker.Worker.{Worker}

@@ -4,11 +4,11 @@ use Rattle.std.proofs.lemmas.Bool.{false≢true}
 use Rattle.std.proofs.lemmas.List.{length-map}
 use lib.ListN.{get_elem?}
 use Rattle.path_core.specs.Parts.{seat_of}
-use Rattle.path_rule.specs.declared.trying.PathSeat.{PathSeat}
 use Rattle.path_rule.specs.declared.view.Returned.{Returned}
-use Rattle.path_rule.specs.Members.{view_of, returned_of}
 use Rattle.path_rule.specs.Rule.{event_of, steps_by}
 use Rattle.path_rule.specs.Trails.{TrailTells}
+use Rattle.path_table.specs.declared.trying.PathSeat.{PathSeat}
+use Rattle.path_table.specs.Members.{view_of, returned_of}
 use Rattle.write_path.specs.Closed.{returned_by}
 use Rattle.write_path.specs.Opened.{numbers_of}
 use Rattle.write_path.proofs.Accounted.{each_there, has_all, all_own, told_of}

@@ -1,5 +1,5 @@
 use Rattle.std.proofs.Common.{◌≡◌, ◌++◌, reverse}
-use Rattle.path_rule.specs.Members.{view_of, part_of, boxes_of, IsOf}
+use Rattle.path_table.specs.Members.{view_of, part_of, boxes_of, IsOf}
 use Rattle.write_path.specs.Closed.{AreOf, returned_by}
 use Rattle.write_path.proofs.closing.join_all.Given as goal
 

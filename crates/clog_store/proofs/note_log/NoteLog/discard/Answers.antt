@@ -1,9 +1,9 @@
 use Rattle.std.proofs.Common.{ℕ, ◌+◌, Contains, ap, sym, subst, take}
 use Rattle.std.specs.Prelude.{IfSome}
 use Rattle.clog_crash.specs.Flush.{IsCovered}
-use Rattle.clog_store.specs.Discarding.{fault_of}
-use Rattle.clog_store.specs.NoteLog.{NoteState}
-use Rattle.clog_store.proofs.NamesKept.{names_from}
+use Rattle.clog_segments.specs.Discarding.{fault_of}
+use Rattle.clog_segments.specs.NoteLog.{NoteState}
+use Rattle.clog_segments.proofs.NamesKept.{names_from}
 use Rattle.clog_store.proofs.NotePasses.{noted_passed}
 use Rattle.clog_store.proofs.note_log.NoteLog.discard.Goals as goal
 

@@ -16,9 +16,9 @@ use Rattle.std.proofs.Common.{
 }
 use Rattle.std.specs.Prelude.{◌-◌}
 use Rattle.std.proofs.lemmas.Bool.{true≢false}
-use Rattle.clog_store.specs.NoteLog.{BeginsFrom, HasLog, NoteState}
+use Rattle.clog_segments.specs.NoteLog.{BeginsFrom, HasLog, NoteState}
 use Rattle.clog_store.proofs.FolderEnds.{due_at_hand}
-use Rattle.clog_store.proofs.Lived.{lives_still}
+use Rattle.clog_segments.proofs.Lived.{lives_still}
 use Rattle.clog_store.proofs.NoteDue.{
   base_low,
   begins_behind,
@@ -28,7 +28,7 @@ use Rattle.clog_store.proofs.NoteDue.{
 }
 use Rattle.clog_store.proofs.NoteGrows.{grows_same, writes_of}
 use Rattle.clog_store.proofs.NoteLeaves.{leaves_same}
-use Rattle.clog_store.proofs.NamesKept.{names_still}
+use Rattle.clog_segments.proofs.NamesKept.{names_still}
 use Rattle.clog_store.proofs.NoteTakes.{entered_id, unentered_any}
 use Rattle.clog_store.proofs.StorePuts.{on_any}
 use Rattle.clog_store.proofs.note_log.NoteLog.go_behind.Goals as goal

@@ -1,11 +1,11 @@
 use Rattle.std.proofs.Common.{◌≡◌, refl, sym, ◌∙◌, ap, subst}
-use Rattle.clog_store.specs.NoteLog.{BeginsFrom, NoteState}
-use Rattle.clog_store.proofs.Lived.{lives_still}
+use Rattle.clog_segments.specs.NoteLog.{BeginsFrom, NoteState}
+use Rattle.clog_segments.proofs.Lived.{lives_still}
 use Rattle.clog_store.proofs.NoteFrom.{from_on}
 use Rattle.clog_store.proofs.NoteGrows.{grows_same, writes_of}
 use Rattle.clog_store.proofs.NoteLeaves.{leaves_same}
 use Rattle.clog_store.proofs.NoteReaches.{noted_on}
-use Rattle.clog_store.proofs.NamesKept.{names_from, names_still}
+use Rattle.clog_segments.proofs.NamesKept.{names_from, names_still}
 use Rattle.clog_store.proofs.note_log.NoteLog.go_on.Goals as goal
 
 pub returns-then-is_stopped-clause-others : goal.returns-then-is_stopped-clause-others

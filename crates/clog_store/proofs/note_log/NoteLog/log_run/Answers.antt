@@ -1,7 +1,7 @@
 use Rattle.std.proofs.Common.{◌≡◌, ◌≤◌, ℕ, ◌++◌, ◌∙◌, List, [], false, length, refl, sym, ap, subst}
 use Rattle.path_core.specs.declared.note.EntryNote.{EntryNote}
-use Rattle.clog_store.specs.Life.{State}
-use Rattle.clog_store.specs.NoteLog.{IsHeld, IsNoteLog, NoteState, Stands}
+use Rattle.clog_segments.specs.Life.{State}
+use Rattle.clog_segments.specs.NoteLog.{IsHeld, IsNoteLog, NoteState, Stands}
 use Rattle.clog_store.specs.NoteSteps.{GoesOn, IsReady, Leaves, MayRun, ReadyAt, standing}
 use Rattle.clog_store.specs.StoreTakes.{TakesMore}
 use Rattle.clog_store.proofs.NoteFrom.{from_on}

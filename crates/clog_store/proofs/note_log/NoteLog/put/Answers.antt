@@ -1,9 +1,9 @@
 use Rattle.std.proofs.Common.{ap, subst}
 use Rattle.std.specs.Prelude.{OnErr}
-use Rattle.clog_store.specs.Life.{State}
-use Rattle.clog_store.specs.NoteLog.{NoteState}
+use Rattle.clog_segments.specs.Life.{State}
+use Rattle.clog_segments.specs.NoteLog.{NoteState}
 use Rattle.clog_store.specs.NoteSteps.{GoesOn}
-use Rattle.clog_store.specs.Publishes.{MayHaveCome, file_at}
+use Rattle.clog_segments.specs.Publishes.{MayHaveCome, file_at}
 use Rattle.clog_store.proofs.NotePasses.{noted_passed, passes_goes}
 use Rattle.clog_store.proofs.note_log.NoteLog.put.Goals as goal
 

@@ -1,6 +1,6 @@
 use Rattle.std.proofs.Common.{◌≡◌, ◌+◌, ℕ, false, refl, sym, ◌∙◌, ap, subst}
 use Rattle.std.proofs.lemmas.Bool.{true≢false}
-use Rattle.clog_store.specs.NoteLog.{BeginsFrom, IsNoteLog, NoteState}
+use Rattle.clog_segments.specs.NoteLog.{BeginsFrom, IsNoteLog, NoteState}
 use Rattle.clog_store.specs.NoteSteps.{Enters}
 use Rattle.clog_store.proofs.NoteGoes.{goes_still}
 use Rattle.clog_store.proofs.NoteGrows.{grows_same, writes_of}

@@ -1,12 +1,12 @@
 use Rattle.std.proofs.Common.{◌≡◌, ◌∙◌, List, drop, take, refl, sym, ap, subst}
 use Rattle.path_core.specs.declared.note.EntryNote.{EntryNote}
 use Rattle.path_core.specs.Keeper.{IsParted}
-use Rattle.clog_store.specs.NoteLog.{BeginsFrom}
-use Rattle.clog_store.proofs.Lived.{lives_still}
+use Rattle.clog_segments.specs.NoteLog.{BeginsFrom}
+use Rattle.clog_segments.proofs.Lived.{lives_still}
 use Rattle.clog_store.proofs.NoteGrows.{grows_of, grows_same, writes_of}
 use Rattle.clog_store.proofs.NoteLeaves.{leaves_same}
 use Rattle.clog_store.proofs.NoteSynced.{may_run}
-use Rattle.clog_store.proofs.NamesKept.{names_still}
+use Rattle.clog_segments.proofs.NamesKept.{names_still}
 use Rattle.clog_store.proofs.note_log.NoteLog.sync.Goals as goal
 
 pub returns-then-is_stopped-clause-lives : goal.returns-then-is_stopped-clause-lives

@@ -1,7 +1,7 @@
 use Rattle.std.proofs.Common.{◌≡◌, ◌∙◌, sym, ap, subst}
-use Rattle.clog_store.specs.NamesLast.{NamesLast}
-use Rattle.clog_store.specs.StoreState.{IsStore, StoreState, store_over}
-use Rattle.clog_store.proofs.NamesKept.{names_at_first}
+use Rattle.clog_segments.specs.NamesLast.{NamesLast}
+use Rattle.clog_segments.specs.StoreState.{IsStore, StoreState, store_over}
+use Rattle.clog_segments.proofs.NamesKept.{names_at_first}
 use Rattle.clog_store.proofs.StoreKept.{store_begun}
 use Rattle.clog_store.proofs.store.Store.begin.Goals as goal
 

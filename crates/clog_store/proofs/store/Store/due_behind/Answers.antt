@@ -1,9 +1,9 @@
 use Rattle.std.proofs.Common.{ℕ, List, sym, subst}
-use Rattle.clog_store.specs.Life.{LivesOn}
+use Rattle.clog_segments.specs.Life.{LivesOn}
 use Rattle.clog_store.specs.StoreDrops.{AreDueIn, AreEarlier}
-use Rattle.clog_store.specs.StoreState.{StoreState}
+use Rattle.clog_segments.specs.StoreState.{StoreState}
 use Rattle.clog_store.specs.StoreTakes.{StandsBehind}
-use Rattle.clog_store.proofs.Lived.{lives_still}
+use Rattle.clog_segments.proofs.Lived.{lives_still}
 use Rattle.clog_store.proofs.store.Store.due_behind.Goals as goal
 
 pub go_behind-requires-clause-due : goal.go_behind-requires-clause-due

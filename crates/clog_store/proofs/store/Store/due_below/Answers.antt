@@ -1,6 +1,6 @@
 use Rattle.std.proofs.Common.{◌∙◌, ℕ, List, sym, subst}
 use Rattle.clog_store.specs.Counting.{IsCountedIn}
-use Rattle.clog_store.specs.StoreState.{IsStore, StoreState}
+use Rattle.clog_segments.specs.StoreState.{IsStore, StoreState}
 use Rattle.clog_store.proofs.store.Store.due_below.Goals as goal
 
 pub invariant_of-self : goal.invariant_of-self

@@ -3,7 +3,7 @@ use Rattle.path_core.specs.declared.note.EntryNote.{EntryNote}
 use Rattle.path_core.specs.Keeper.{PutFile}
 use Rattle.clog_store.specs.Counting.{IsAllCounted}
 use Rattle.clog_store.specs.Dropping.{ArePlaced}
-use Rattle.clog_store.specs.StoreState.{StoreState}
+use Rattle.clog_segments.specs.StoreState.{StoreState}
 use Rattle.clog_store.proofs.NotePlaced.{logged_placed}
 use Rattle.clog_store.proofs.store.Store.due_counted.Goals as goal
 

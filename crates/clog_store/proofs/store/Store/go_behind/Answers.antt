@@ -3,14 +3,14 @@ use Rattle.std.specs.Prelude.{OnErr, OnOk}
 use Rattle.std.proofs.lemmas.Bool.{true≢false}
 use Rattle.clog_base.proofs.Members.{nothing_there}
 use Rattle.clog_store.specs.Counting.{IsCountedIn}
-use Rattle.clog_store.specs.NoteLog.{HasLog, NoteState}
+use Rattle.clog_segments.specs.NoteLog.{HasLog, NoteState}
 use Rattle.clog_store.specs.StoreDrops.{AreDueIn}
-use Rattle.clog_store.specs.StoreState.{StoreState, holding_of}
+use Rattle.clog_segments.specs.StoreState.{StoreState, holding_of}
 use Rattle.clog_store.specs.StoreTakes.{StandsBehind}
 use Rattle.clog_store.proofs.OrderSyncs.{goes_for_none, settled_same}
 use Rattle.clog_store.proofs.StoreFolds.{folder_failed, folder_with}
 use Rattle.clog_store.proofs.StoreKept.{store_on}
-use Rattle.clog_store.proofs.NamesKept.{names_on}
+use Rattle.clog_segments.proofs.NamesKept.{names_on}
 use Rattle.clog_store.proofs.store.Store.go_behind.Goals as goal
 
 pub go_behind-outcome-requires-clause-due : goal.go_behind-outcome-requires-clause-due

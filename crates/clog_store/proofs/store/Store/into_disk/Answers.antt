@@ -1,14 +1,14 @@
 use Rattle.std.proofs.Common.{◌≡◌, ◌∙◌, Some, false, refl, sym, ap, subst}
-use Rattle.clog_store.specs.AtMost.{HoldsMost}
-use Rattle.clog_store.specs.NoteLog.{IsNoteLog, NoteState}
-use Rattle.clog_store.specs.NamesLast.{NamesLast}
-use Rattle.clog_store.specs.StoreFolder.{IsSound}
-use Rattle.clog_store.specs.StoreImages.{MostSince, OpensSince, TablesSince}
+use Rattle.clog_segments.specs.AtMost.{HoldsMost}
+use Rattle.clog_segments.specs.NoteLog.{IsNoteLog, NoteState}
+use Rattle.clog_segments.specs.NamesLast.{NamesLast}
+use Rattle.clog_segments.specs.StoreFolder.{IsSound}
+use Rattle.clog_segments.specs.StoreImages.{MostSince, OpensSince, TablesSince}
 use Rattle.clog_store.specs.StoreNames.{RowsLast}
-use Rattle.clog_store.specs.StoreOrder.{AreSettled}
-use Rattle.clog_store.specs.Life.{ShownSince, State}
-use Rattle.clog_store.specs.StoreFailed.{AllStay}
-use Rattle.clog_store.specs.StoreState.{
+use Rattle.clog_segments.specs.StoreOrder.{AreSettled}
+use Rattle.clog_segments.specs.Life.{ShownSince, State}
+use Rattle.clog_segments.specs.StoreFailed.{AllStay}
+use Rattle.clog_segments.specs.StoreState.{
   AppendsAlone,
   HasOrdered,
   HoldsIt,

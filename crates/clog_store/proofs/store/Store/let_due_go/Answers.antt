@@ -2,10 +2,10 @@ use Rattle.std.proofs.Common.{ℕ, ◌∙◌, List, sym, subst, arith}
 use Rattle.std.specs.Prelude.{Err, Ok}
 use Rattle.clog_store.specs.Dropping.{AreDue}
 use Rattle.clog_store.specs.StoreDrops.{AreDueIn, AreEarlier}
-use Rattle.clog_store.specs.StoreState.{holding_of}
+use Rattle.clog_segments.specs.StoreState.{holding_of}
 use Rattle.clog_store.specs.StoreTakes.{StandsBehind}
 use Rattle.clog_store.proofs.DroppedLists.{few_below}
-use Rattle.clog_store.proofs.Lived.{lives_further}
+use Rattle.clog_segments.proofs.Lived.{lives_further}
 use Rattle.clog_store.proofs.StoreDropped.{
   all_dropped,
   due_on,

@@ -1,8 +1,8 @@
 use Rattle.std.proofs.Common.{true, ◌≡◌, ℕ, refl, sym, ◌∙◌, ap₂, subst}
 use Rattle.std.specs.Prelude.{OnErr, OnOk}
 use Rattle.path_core.specs.Keeper.{HasKeeperCause, MaySync, SyncRefused, Syncs}
-use Rattle.clog_store.specs.Life.{AllLasts}
-use Rattle.clog_store.specs.StoreState.{StoreState, holding_of, told_as}
+use Rattle.clog_segments.specs.Life.{AllLasts}
+use Rattle.clog_segments.specs.StoreState.{StoreState, holding_of, told_as}
 use Rattle.clog_store.specs.StoreTakes.{GoesOnTaking}
 use Rattle.clog_store.proofs.HeldSegments.{counted_synced}
 use Rattle.clog_store.proofs.OrderSyncs.{synced_goes, synced_settled}
@@ -16,7 +16,7 @@ use Rattle.clog_store.proofs.StoreKept.{
   syncs_told,
 }
 use Rattle.clog_store.proofs.StorePuts.{all_last, on_told}
-use Rattle.clog_store.proofs.NamesKept.{names_on}
+use Rattle.clog_segments.proofs.NamesKept.{names_on}
 use Rattle.clog_store.proofs.store.Store.make_lasting.Goals as goal
 
 pub sync-outcome-requires : goal.sync-outcome-requires

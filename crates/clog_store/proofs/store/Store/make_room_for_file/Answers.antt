@@ -1,8 +1,8 @@
 use Rattle.std.proofs.Common.{◌≡◌, ◌∙◌, ℕ, true, inl, refl, sym, ap₂, subst}
 use Rattle.std.specs.Prelude.{Err}
 use Rattle.path_core.specs.Keeper.{HasKeeperCause}
-use Rattle.clog_store.specs.declared.written.StoreFault.TheVariants.{Stopped}
-use Rattle.clog_store.specs.StoreState.{StoreState, holding_of, told_as}
+use Rattle.clog_segments.specs.declared.written.StoreFault.TheVariants.{Stopped}
+use Rattle.clog_segments.specs.StoreState.{StoreState, holding_of, told_as}
 use Rattle.clog_store.proofs.StoreKept.{keeper_cause}
 use Rattle.clog_store.proofs.store.Store.make_room_for_file.Goals as goal
 

@@ -1,9 +1,9 @@
 use Rattle.std.proofs.Common.{◌≡◌, true, ℕ, sym, ◌∙◌, ap₂, subst}
 use Rattle.path_core.specs.Keeper.{HasKeeperCause}
 use Rattle.clog_store.specs.Counting.{IsCountedIn}
-use Rattle.clog_store.specs.NoteLog.{NoteState}
-use Rattle.clog_store.specs.Stepped.{IsQuiet}
-use Rattle.clog_store.specs.StoreState.{
+use Rattle.clog_segments.specs.NoteLog.{NoteState}
+use Rattle.clog_segments.specs.Stepped.{IsQuiet}
+use Rattle.clog_segments.specs.StoreState.{
   HasMoved,
   HasReached,
   IsStore,
@@ -23,7 +23,7 @@ use Rattle.clog_store.proofs.StorePuts.{
   quiet_on,
   store_still,
 }
-use Rattle.clog_store.proofs.NamesKept.{names_on}
+use Rattle.clog_segments.proofs.NamesKept.{names_on}
 use Rattle.clog_store.proofs.store.Store.next_sequence.Goals as goal
 
 pub invariant_of-self : goal.invariant_of-self

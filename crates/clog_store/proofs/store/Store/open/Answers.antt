@@ -1,6 +1,6 @@
 use Rattle.std.proofs.Common.{sym, subst}
-use Rattle.clog_store.specs.Opened.{RecoversAll}
-use Rattle.clog_store.specs.StoreState.{StoreState}
+use Rattle.clog_segments.specs.Opened.{RecoversAll}
+use Rattle.clog_segments.specs.StoreState.{StoreState}
 use Rattle.clog_store.specs.StoreTakes.{TakesNext}
 use Rattle.clog_store.proofs.StoreFolds.{opened_folder}
 use Rattle.clog_store.proofs.StoreTaking.{takes_opened}

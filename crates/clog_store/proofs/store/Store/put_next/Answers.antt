@@ -17,12 +17,12 @@ use Rattle.std.proofs.Common.{
 use Rattle.clog_base.specs.Positions.{position_of}
 use Rattle.path_core.specs.Keeper.{MayPublish, PutFile}
 use Rattle.clog_store.specs.Counting.{IsCountedIn}
-use Rattle.clog_store.specs.NoteLog.{IsNoteLog, NoteState}
+use Rattle.clog_segments.specs.NoteLog.{IsNoteLog, NoteState}
 use Rattle.clog_store.specs.NoteSteps.{GoesOn}
 use Rattle.std.specs.Prelude.{Err}
-use Rattle.clog_store.specs.Publishes.{IsNextSequence}
-use Rattle.clog_store.specs.Stepped.{IsQuiet, StopsBy}
-use Rattle.clog_store.specs.StoreState.{
+use Rattle.clog_segments.specs.Publishes.{IsNextSequence}
+use Rattle.clog_segments.specs.Stepped.{IsQuiet, StopsBy}
+use Rattle.clog_segments.specs.StoreState.{
   HasReached,
   IsStore,
   StoreState,
@@ -30,7 +30,7 @@ use Rattle.clog_store.specs.StoreState.{
   put_of,
 }
 use Rattle.clog_store.specs.StoreTakes.{GoesOnTaking, TakesNext}
-use Rattle.clog_store.proofs.AtMost.{ends_up_to}
+use Rattle.clog_segments.proofs.AtMost.{ends_up_to}
 use Rattle.clog_store.proofs.NoteTakes.{passed_id, takes_moved}
 use Rattle.clog_store.proofs.HeldSegments.{counted_put}
 use Rattle.clog_store.proofs.NoteGoes.{goes_still}
@@ -52,7 +52,7 @@ use Rattle.clog_store.proofs.StorePuts.{
   store_put,
   store_still,
 }
-use Rattle.clog_store.proofs.NamesKept.{names_on}
+use Rattle.clog_segments.proofs.NamesKept.{names_on}
 use Rattle.clog_store.proofs.store.Store.put_next.Goals as goal
 
 pub returns-in_err-reserve-clause-goes : goal.returns-in_err-reserve-clause-goes

@@ -1,11 +1,11 @@
 use Rattle.std.proofs.Common.{◌≡◌, true, sym, subst}
 use Rattle.std.proofs.lemmas.Bool.{true≢false}
-use Rattle.clog_store.specs.Life.{LivesOn}
+use Rattle.clog_segments.specs.Life.{LivesOn}
 use Rattle.clog_store.specs.NoteSteps.{GoesOn}
-use Rattle.clog_store.specs.Stepped.{IsQuiet}
-use Rattle.clog_store.specs.StoreState.{HasMoved, StoreState}
+use Rattle.clog_segments.specs.Stepped.{IsQuiet}
+use Rattle.clog_segments.specs.StoreState.{HasMoved, StoreState}
 use Rattle.clog_store.specs.StoreTakes.{GoesOnTaking, TakesNext}
-use Rattle.clog_store.proofs.Lived.{lives_still}
+use Rattle.clog_segments.proofs.Lived.{lives_still}
 use Rattle.clog_store.proofs.NoteGoes.{goes_then}
 use Rattle.clog_store.proofs.StorePuts.{may_moved, moved_both, quiet_both, stays_both}
 use Rattle.clog_store.proofs.StoreTaking.{taking_both}

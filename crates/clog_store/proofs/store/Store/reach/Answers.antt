@@ -1,13 +1,13 @@
 use Rattle.std.proofs.Common.{◌≡◌, true, ℕ, sym, ◌∙◌, ap₂, subst}
 use Rattle.path_core.specs.Keeper.{HasKeeperCause}
 use Rattle.clog_store.specs.Counting.{IsCountedIn}
-use Rattle.clog_store.specs.NoteLog.{NoteState}
-use Rattle.clog_store.specs.Stepped.{IsQuiet}
-use Rattle.clog_store.specs.StoreState.{HasMoved, StoreState, holding_of, told_as}
+use Rattle.clog_segments.specs.NoteLog.{NoteState}
+use Rattle.clog_segments.specs.Stepped.{IsQuiet}
+use Rattle.clog_segments.specs.StoreState.{HasMoved, StoreState, holding_of, told_as}
 use Rattle.clog_store.specs.StoreTakes.{GoesOnTaking}
 use Rattle.clog_store.proofs.StoreKept.{keeper_cause, rose_of}
 use Rattle.clog_store.proofs.StorePuts.{on_told, quiet_on, store_gone_on}
-use Rattle.clog_store.proofs.NamesKept.{names_on}
+use Rattle.clog_segments.proofs.NamesKept.{names_on}
 use Rattle.clog_store.proofs.store.Store.reach.Goals as goal
 
 pub invariant_of-self : goal.invariant_of-self

@@ -1,5 +1,5 @@
 use Rattle.std.proofs.Common.{sym, ◌∙◌}
-use Rattle.clog_store.proofs.Outcomes.{ok_both}
+use Rattle.clog_segments.proofs.Outcomes.{ok_both}
 use Rattle.clog_store.proofs.TableLogs.{touching_at}
 use Rattle.clog_store.proofs.table_log.growing.add_entry.Goals as goal
 

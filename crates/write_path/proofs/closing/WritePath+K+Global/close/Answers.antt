@@ -1,8 +1,8 @@
 use Rattle.std.proofs.Common.{ℕ, sym, ap, ◌∙◌, subst}
-use Rattle.path_rule.specs.declared.bounds.TableBounds.{TableBounds}
 use Rattle.path_rule.specs.declared.lasting.Lasting.{Lasting}
-use Rattle.path_rule.specs.ClosedBounds.{TellsBounds}
 use Rattle.path_rule.specs.Lasts.{beside_of}
+use Rattle.path_table.specs.declared.bounds.TableBounds.{TableBounds}
+use Rattle.path_table.specs.ClosedBounds.{TellsBounds}
 use Rattle.write_path.specs.Closed.{AreAll, IsOutcome, StaysBeside}
 use Rattle.write_path.specs.Opened.{numbers_of}
 use Rattle.write_path.proofs.BesideStays.{plain_beside}

@@ -3,7 +3,7 @@ use Rattle.clog_base.specs.declared.position.Key.{Key}
 use Rattle.path_core.specs.declared.state.Bound.TheVariants.{Final}
 use Rattle.path_core.specs.Parts.{seat_table}
 use Rattle.path_rule.specs.Accepted.{TriesBound}
-use Rattle.path_rule.specs.Members.{part_of}
+use Rattle.path_table.specs.Members.{part_of}
 use Rattle.write_path.specs.declared.accepting.Accept.{Accept}
 use Rattle.write_path.specs.Ends.{answered, HasTried}
 use Rattle.write_path.proofs.PlacedAt.{same_then}

@@ -5,8 +5,8 @@ use Rattle.path_core.specs.declared.event.SwitchPart.TheVariants.{Open, Mark}
 use Rattle.path_core.specs.Parts.{stage_of}
 use Rattle.path_rule.specs.declared.view.View.{View}
 use Rattle.path_rule.proofs.seats.Answering.{wrote_more}
-use Rattle.path_rule.proofs.seats.Marking.{under_log}
 use Rattle.path_rule.proofs.seats.SwitchStages.{found_stage}
+use Rattle.path_table.proofs.seats.Marking.{under_log}
 use Rattle.write_path.proofs.FlushGoes.{still_wrote}
 use Rattle.write_path.proofs.FlushTables.{on_table, then_table}
 use Rattle.write_path.proofs.FlushSwitching.{

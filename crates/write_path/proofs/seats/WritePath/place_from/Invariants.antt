@@ -1,6 +1,6 @@
 use Rattle.std.specs.Prelude.{◌≡◌, ◌≢◌, ℕ, ◌<◌, Some}
 use Rattle.path_core.specs.Parts.{seat_table}
-use Rattle.path_rule.specs.Members.{part_of}
+use Rattle.path_table.specs.Members.{part_of}
 use Rattle.write_path.specs.Ends.{IsSameWrite}
 use Rattle.write_path.proofs.seats.WritePath.place_from.Given as goal
 

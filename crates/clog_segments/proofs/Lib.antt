@@ -1,0 +1,48 @@
+pub mod AddsOnly
+pub mod AllGo
+mod Anywhere
+pub mod AtMost
+mod Begun
+mod Beside
+mod Changed
+mod ComesFrom
+mod Ended
+mod Ends
+mod FilePut
+mod Filed
+pub mod FolderNames
+pub mod FolderReads
+mod GoodTables
+pub mod Ids
+mod ImagesOpen
+mod Kept
+pub mod Live
+pub mod Lived
+mod LivedCalls
+mod LivedRolls
+mod Looking
+mod MayGo
+pub mod MostOpens
+pub mod NamesKept
+pub mod NextNames
+pub mod NoteRuns
+pub mod Noted
+pub mod Numbering
+pub mod OnDisk
+mod OpensWell
+mod OpenedAgain
+pub mod OpenedWhole
+mod OtherFiles
+pub mod Outcomes
+mod PutTables
+mod Ready
+mod Recovered
+mod Recovery
+pub mod SegmentFiles
+mod SegmentsGo
+mod ShownNotes
+mod Stays
+mod TablesYet
+pub mod Torn
+mod TornReads
+mod Untouched

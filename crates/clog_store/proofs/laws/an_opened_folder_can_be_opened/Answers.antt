@@ -1,5 +1,0 @@
-use Rattle.clog_store.proofs.OpenedAgain.{opens_again}
-use Rattle.clog_store.proofs.laws.an_opened_folder_can_be_opened.Goals as goal
-
-pub returns : goal.returns
-returns c = opens_again

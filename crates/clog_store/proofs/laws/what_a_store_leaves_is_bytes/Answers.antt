@@ -1,5 +1,0 @@
-use Rattle.clog_store.proofs.SegmentFiles.{of_a_store}
-use Rattle.clog_store.proofs.laws.what_a_store_leaves_is_bytes.Goals as goal
-
-pub returns : goal.returns
-returns c = of_a_store

@@ -1,5 +1,0 @@
-use Rattle.clog_store.proofs.SegmentFiles.{of_coming}
-use Rattle.clog_store.proofs.laws.what_an_opening_leaves_is_bytes.Goals as goal
-
-pub returns : goal.returns
-returns c = of_coming

@@ -1,5 +1,0 @@
-use Rattle.clog_store.proofs.OpensWell.{not_refused}
-use Rattle.clog_store.proofs.laws.what_can_be_opened_is_opened.Goals as goal
-
-pub returns : goal.returns
-returns c = not_refused

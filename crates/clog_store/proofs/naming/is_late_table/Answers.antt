@@ -1,6 +1,0 @@
-use Rattle.clog_store.proofs.Ids.{late}
-use Rattle.clog_store.proofs.naming.is_late_table.Goals as goal
-
-pub returns-in-Some : goal.returns-in-Some
-returns-in-Some c =
-    late c.args.name.now c.in-Some.field-0-0.0 c.in-Some.sequence c.in-Some.ensures

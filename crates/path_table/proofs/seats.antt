@@ -1,0 +1,6 @@
+-- Seats: what they know behind their calls, and what a closed table tells of its run.
+pub mod LastBounds
+pub mod Ends
+pub mod Marking
+pub mod OldestMoves
+pub mod BarrierIssues

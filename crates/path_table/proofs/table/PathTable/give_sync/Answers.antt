@@ -1,0 +1,30 @@
+use Rattle.std.proofs.Common.{refl, ap, ◌∙◌, arith}
+use Rattle.atomic_table.specs.Table.{rest}
+use Rattle.path_rule.specs.declared.view.View.{View}
+use Rattle.path_rule.proofs.moves.TurnSteps.{gives_sync}
+use Rattle.path_rule.specs.Lasts.{beside_of, shows_of}
+use Rattle.path_table.proofs.table.PathTable.give_sync.Goals as goal
+
+pub store-requires : goal.store-requires
+store-requires g c = let t = c.args.self.now in let m = c.args.member.now in
+    let k = t.table.shared.key.size in
+    let o = beside_of (g.K.Keeper.holds t.table.shared.key.first.value) in let wide = t.wide in (
+      c.requires.table.0,
+      omega arith,
+      gives_sync (shows_of g.K.Keeper.holds) o k t.table.shared.table_id.slots
+          m.seat.id m.seat.me m.number m.role c.requires.desk.0
+          (rest m.seat.me.1) c.requires.rest.0 c.requires.rest.1 c.requires.rest.2
+          c.requires.desk.1 c.requires.desk.2,
+    )
+
+pub invariant_of-member : goal.invariant_of-member
+invariant_of-member g c = let m = c.args.member.now in let d = c.store.ensures.2 m.number m.role in
+    record { role = ap (λ (v : View). v.role) d.0.0 ∙ m.role }
+
+pub returns-clause-same : goal.returns-clause-same
+returns-clause-same g c = let m = c.args.member.now in let d = c.store.ensures.2 m.number m.role in
+    (c.store.ensures.0, refl, d.1)
+
+pub returns-clause-step : goal.returns-clause-step
+returns-clause-step g c = let m = c.args.member.now in let d = c.store.ensures.2 m.number m.role in
+    record { view = d.0.0; was = d.0.1 }

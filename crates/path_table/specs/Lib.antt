@@ -1,0 +1,4 @@
+pub mod Members
+pub mod Passes
+pub mod Marks
+pub mod ClosedBounds

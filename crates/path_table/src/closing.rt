@@ -1,0 +1,124 @@
+//! Seats are taken in by one of them, and that one closes the table.
+ghost use Rattle.std.specs.Prelude.{
+  ◌≡◌,
+  ℕ,
+  ◌+◌,
+  ◌*◌,
+  ◌<◌,
+  ◌≤◌,
+  None,
+  [],
+  ◌∷◌,
+  ◌++◌,
+  slice_index,
+};
+ghost use Rattle.std.specs.Slots.{slots_items, slots_len, IsFull};
+ghost use mathlib.Core.Option.{some};
+ghost use lib.ListN.{get_elem?};
+ghost use Rattle.path_core.specs.Parts.{HoldsNoTurn};
+ghost use Rattle.path_rule.specs.FirstBoxes.{HasInFront};
+ghost use Rattle.path_rule.specs.Lasts.{beside_of};
+ghost use Rattle.path_rule.specs.Sharing.{Ended, HasAll};
+ghost use Rattle.path_table.specs.ClosedBounds.{TellsBounds, last_key};
+ghost use Rattle.path_table.specs.Members.{
+  view_of,
+  part_of,
+  boxes_of,
+  returned_of,
+  IsSame,
+};
+
+use crate::bounds::{TableBounds, last_bounds};
+use crate::table::{Member, PathTable};
+use crate::words::LOG;
+use atomic_table::Closed;
+use path_core::Keeper;
+use path_rule::{Desk, Merge, Slot};
+use std::alloc::{Allocator, Global};
+
+impl<K: Keeper, A: Allocator> PathTable<K, A> {
+    /// A seat takes in another, which runs no write, holds no turn and has no box: it knows all
+    /// that the other one did.
+    pub fn merge(&self, first: &mut Member<K>, other: Member<K>)
+        requires first { first.old.seat.table_id ≡ self.now.table.shared.table_id }
+        requires other { (other.seat.table_id ≡ self.now.table.shared.table_id)
+            × (boxes_of other ≡ []) }
+        requires idle { ((part_of other).append ≡ None) × ((part_of other).sync ≡ None) }
+        requires ended { (part_of other).write ≡ None }
+        requires free { HoldsNoTurn (part_of other) }
+        ensures same { (first.new.seat.table_id ≡ first.old.seat.table_id)
+            × (first.new.number ≡ first.old.number)
+            × ((view_of first.new).trail ≡ (view_of first.old).trail)
+            × (part_of first.new ≡ part_of first.old)
+            × (boxes_of first.new ≡ boxes_of first.old)
+            × ((view_of first.new).size ≡ (view_of first.old).size) }
+        ensures returned { (view_of first.new).returned
+            ≡ (view_of first.old).returned ++ returned_of other ∷ [] }
+    {
+        let Member { seat, number: _ } = other;
+        self.table.shared.join_seat::<Merge>(&mut first.seat, seat);
+    }
+}
+
+fn let_go<S: Drop>(value: S) {
+    drop(value);
+}
+
+// The keeper on the desk of a closed table, the log key, and the tables' bounds.
+pub(crate) fn keeper_and_log<K: Keeper + Drop>(
+    closed: Closed<Slot<K>, Global>,
+) -> (K, u64, TableBounds)
+    requires full { IsFull closed.words × IsFull closed.slots }
+    requires words { 135240 ≤ slots_len closed.words }
+    requires few { (t : ℕ) → t < 16 → slice_index (slots_items closed.words) (8 + 4 * t) ≤ 256 }
+    requires boxes { 0 < slots_len closed.slots }
+    requires desk { (keeper : K) × HasInFront keeper (slots_items closed.slots) }
+    ensures keeper { (keeper : K) → HasInFront keeper (slots_items closed.slots)
+        → result.0 ≡ keeper }
+    ensures log { get_elem? (slots_items closed.words) 4 ≡ some result.1 }
+    ensures bounds { (t : ℕ) → t < 16
+        → slice_index result.2.keys t ≡ last_key (slots_items closed.words) t }
+{
+    let mut closed = closed;
+    let log = closed.word(LOG);
+    let bounds = last_bounds(&closed);
+    let first = closed.take(0);
+    for i in 1..closed.slot_count() {
+        let_go(closed.take(i));
+    }
+    closed.free();
+    match first {
+        Slot::Turn(desk) => {
+            let Desk {
+                keeper,
+                lent: _,
+                gathered: _,
+                progress: _,
+                uppers: _,
+            } = desk;
+            (keeper, log, bounds)
+        }
+        Slot::Notes(_) => unreachable!(),
+    }
+}
+
+impl<K: Keeper + Drop> PathTable<K, Global> {
+    /// Closes the table by a seat that took in all others. It answers the keeper, the log key, and
+    /// of each table the bound below its newest memtable; and what the path was: one run of the
+    /// machine, in which each seat's steps are its own, and which ends in a lawful state with that
+    /// log key and these bounds, of which the keeper holds exactly what is lasting. Beside its log
+    /// it has what the keeper had for which the table was opened.
+    pub fn finish(self, member: Member<K>) -> (K, u64, TableBounds)
+        requires table { (member.seat.table_id ≡ self.table.shared.table_id)
+            × (boxes_of member ≡ []) }
+        requires all { HasAll self.size.seats member.number (view_of member).returned }
+        requires idle { ((part_of member).append ≡ None) × ((part_of member).sync ≡ None) }
+        ensures { (ended : Ended (beside_of (K.holds self.table.shared.key.first.value)) self.size
+            (returned_of member ∷ (view_of member).returned) result.1 (K.holds result.0))
+            × TellsBounds ended.core result.2 }
+    {
+        let PathTable { table, size: _ } = self;
+        let Member { seat, number: _ } = member;
+        keeper_and_log(table.close_with(seat))
+    }
+}

@@ -1,0 +1,98 @@
+//! Calls that make one attempt and wait for nobody.
+ghost use Rattle.std.specs.Prelude.{◌≡◌, ℕ, ◌<◌, [], Some, None, MatchResult, length};
+ghost use Rattle.op_core.specs.declared.count.Order.TheVariants.{Write};
+ghost use Rattle.path_core.specs.declared.event.Carried.TheVariants.{Nothing};
+ghost use Rattle.path_core.specs.declared.event.Event.TheVariants.{Close};
+ghost use Rattle.path_core.specs.declared.event.Place.TheVariants.{Count};
+ghost use Rattle.path_core.specs.Parts.{HoldsNoTurn, IsIdle};
+ghost use Rattle.path_rule.specs.Calls.{Started, Refused, acts, FoundSince};
+ghost use Rattle.path_table.specs.Members.{view_of, part_of, IsOf, IsSame, Stepped};
+
+use crate::table::{Member, PathTable};
+use crate::words::EXPIRED;
+use path_core::Keeper;
+use std::alloc::Allocator;
+
+/// Why a seat did not join a group: the count that it looked at was expired, or another one was
+/// found then.
+#[derive(Clone, Copy, Drop)]
+pub struct Seen {
+    /// The count that it looked at.
+    pub looked: u64,
+    /// The count that it found then, where it tried to join.
+    pub found: u64,
+}
+
+/// An idle seat: it is in no group, has claimed nothing, and has neither a turn nor a box.
+#[derive(Drop)]
+pub struct PathSeat<K> {
+    /// The seat.
+    pub member: Member<K>,
+    pub ghost idle: { IsIdle member.seat.me.0.part },
+    pub ghost unclaimed: { member.seat.me.0.part.claim ≡ None },
+    pub ghost free: { HoldsNoTurn member.seat.me.0.part },
+    pub ghost bare: { member.seat.me.1 ≡ [] },
+}
+
+/// A seat in a group of the write order, before it appends.
+#[derive(Drop)]
+pub struct Begun<K> {
+    /// The seat.
+    pub member: Member<K>,
+    /// The group.
+    pub group: u64,
+    pub ghost inside: { member.seat.me.0.part.write ≡ Some group },
+    pub ghost outside: { member.seat.me.0.part.append ≡ None },
+    pub ghost unclaimed: { member.seat.me.0.part.claim ≡ None },
+    pub ghost free: { HoldsNoTurn member.seat.me.0.part },
+    pub ghost bare: { member.seat.me.1 ≡ [] },
+}
+
+impl<K: Keeper, A: Allocator> PathTable<K, A> {
+    /// Joins the current group of the write order, if its count stays as it was looked at. A
+    /// refused seat only looked, and says what it found in this call.
+    pub fn try_start(&self, seat: PathSeat<K>) -> Result<Begun<K>, (PathSeat<K>, Seen)>
+        requires { IsOf self.now.table.shared.table_id self.now.size seat.member }
+        ensures { MatchResult result
+            (λ b. (b.member.seat.table_id ≡ seat.member.seat.table_id)
+            × (b.member.number ≡ seat.member.number) × (b.group < 65536)
+            × Started (view_of seat.member) seat.member.number Write b.group (view_of b.member))
+            (λ r. (r.0.member.seat.table_id ≡ seat.member.seat.table_id)
+            × (r.0.member.number ≡ seat.member.number)
+            × Refused (view_of seat.member) seat.member.number Write r.1.looked r.1.found
+            (view_of r.0.member)
+            × (acts (view_of r.0.member).trail ≡ acts (view_of seat.member).trail)
+            × ((g : ℕ) × FoundSince (length (view_of seat.member).trail) (Count Write g) r.1.found
+            (view_of r.0.member).trail)) }
+    {
+        let PathSeat { mut member } = seat;
+        let group = self.look_write(&mut member);
+        let looked = self.look_writers(&mut member, group);
+        if looked >= EXPIRED {
+            let seen = Seen {
+                looked,
+                found: looked,
+            };
+            return Err((PathSeat { member }, seen));
+        }
+        let found = self.register(&mut member, group, looked);
+        if found == looked {
+            Ok(Begun { member, group })
+        } else {
+            Err((PathSeat { member }, Seen { looked, found }))
+        }
+    }
+
+    /// Leaves the write order, before a claim.
+    pub fn stop(&self, seat: Begun<K>) -> PathSeat<K>
+        requires table { IsOf self.now.table.shared.table_id self.now.size seat.member }
+        requires group { seat.group < 65536 }
+        ensures same { IsSame seat.member result.member }
+        ensures step { (n : ℕ) × Stepped seat.member
+            (Close seat.member.number Write seat.group Nothing) n result.member }
+    {
+        let Begun { mut member, group } = seat;
+        let _found = self.leave(&mut member, group);
+        PathSeat { member }
+    }
+}

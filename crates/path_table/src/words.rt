@@ -1,0 +1,63 @@
+//! Where the words of the table stand. `Layout` of `path_rule` has the place of each, and the law
+//! that no two places share a word.
+
+/// How many words there are.
+pub(crate) const WORDS: usize = 135_240;
+
+/// The number of the current group of the write order.
+pub(crate) const CURRENT_WRITE: usize = 0;
+
+/// The number of the current group of the append order.
+pub(crate) const CURRENT_APPEND: usize = 1;
+
+/// The number of the oldest group of the write order.
+pub(crate) const OLDEST_WRITE: usize = 2;
+
+/// The number of the oldest group of the append order.
+pub(crate) const OLDEST_APPEND: usize = 3;
+
+/// The log key: where the next claim begins.
+pub(crate) const LOG: usize = 4;
+
+/// The key up to which the log is lasting.
+pub(crate) const SYNCED: usize = 5;
+
+/// The keeper's count of faults, 0 while the log runs.
+pub(crate) const STOPPED: usize = 6;
+
+/// 1 while a seat holds the Sync turn.
+pub(crate) const SYNC_TURN: usize = 7;
+
+/// The newest memtable of table 0: four words on for each next table.
+pub(crate) const NEWEST: usize = 8;
+
+/// The Flush turn of table 0, 1 while a seat holds it: four words on for each next table.
+pub(crate) const FLUSH_TURN: usize = 9;
+
+/// The oldest live memtable of table 0: four words on for each next table.
+pub(crate) const OLDEST_LIVE: usize = 10;
+
+/// The bounds of the tables' first memtables: one word on for each next table, sixteen for each
+/// next memtable.
+pub(crate) const BOUNDS: usize = 131_144;
+
+/// The mark of a raising bound, above all keys.
+pub(crate) const RAISING: u64 = 0x4000_0000_0000_0000;
+
+/// The mark of a final bound.
+pub(crate) const FINAL: u64 = 0x8000_0000_0000_0000;
+
+/// The counts of the groups of the write order: two words on for each next group.
+pub(crate) const WRITE_COUNTS: usize = 72;
+
+/// The counts of the groups of the append order, between those of the write order.
+pub(crate) const APPEND_COUNTS: usize = 73;
+
+/// The highest bit of a count, which marks an expired group.
+pub(crate) const EXPIRED: u64 = 0x8000_0000_0000_0000;
+
+/// The last group of an order that there is a word for.
+pub(crate) const LAST_GROUP: u64 = 65_535;
+
+/// Where the log begins, in the first segment.
+pub(crate) const FIRST_KEY: u64 = 28;
