@@ -29,6 +29,8 @@ pub mod StoreOnly
 pub mod StoreOrdered
 mod StoreTables
 pub mod Tables
+pub mod Taken
+mod WorkedComing
 mod WorkedDeeds
 mod WorkedEnds
 mod WorkedEntry

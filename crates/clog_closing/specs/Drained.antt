@@ -28,6 +28,10 @@ KeepsLog before now =
       archived = now.archived;
     }
 
+-- Where the keeper does not archive no segment has an archive name.
+abbrev pub GivesNoName : Holding → Type 0
+GivesNoName h = h.opening.archives ≡ false → h.archived ≡ []
+
 -- It has put no file, and dropped and archived no segment.
 pub record HasNoDeeds (h : Holding) : Type 0 where
   pub no_file : h.files ≡ []
@@ -44,7 +48,7 @@ pub record Drains (before now : Holding) (memtables : List Memtable) : Type 0 wh
 -- key in its interval, and where the keeper does not archive no segment has an archive name.
 pub record HasBegun (h : Holding) (upper : ℕ) : Type 0 where
   pub wide : (put : PutFile) → Contains h.files put → (put.lower ≡ 0) × (put.upper ≡ upper)
-  pub none_archived : h.opening.archives ≡ false → h.archived ≡ []
+  pub none_archived : GivesNoName h
 
 -- each of these memtables has the whole log up to a key
 abbrev pub ReachTo : ℕ → List Memtable → Type 0
@@ -64,12 +68,14 @@ StaysAlive disk before now =
     → LivesOn disk.files disk.moment disk.since disk.leaves disk.read_at disk.lasted_at before now
 
 -- What a step of a drain makes of a store that runs, whatever it answers: with files for these
--- memtables, or for the first of them, a drain up to a key is one up to that key still; the log is
--- as it was and lives on; and the step ends as it answers.
+-- memtables, or for the first of them, a drain up to a key is one up to that key still; no segment
+-- gets an archive name where the store does not archive; the log is as it was and lives on; and the
+-- step ends as it answers.
 pub record HasGoneOn {D : Type 0} (disk : DiskTells D) (code : D → Gv) (before now : StoreState D)
     (memtables : List Memtable) (result : Result (Unit {0}) KeeperFault) : Type 0 where
   pub begun : (upper : ℕ) → ReachTo upper memtables → HasBegun (held_in disk code before) upper
       → HasBegun (held_in disk code now) upper
+  pub names : GivesNoName (held_in disk code before) → GivesNoName (held_in disk code now)
   pub keeps : KeepsLog (held_in disk code before) (held_in disk code now)
   pub ends : EndsAs (held_in disk code now) result
   pub first : now.first ≡ before.first

@@ -19,7 +19,6 @@ use Rattle.std.specs.Prelude.{
   Option,
   Some,
   option_map,
-  ⊤,
 }
 use Rattle.std.specs.List.{AllPairs, flat_map}
 use Rattle.clog_spec.specs.Names.{segment_name_of}
@@ -41,7 +40,7 @@ use Rattle.clog_applied.specs.Appended.{IsAppended}
 use Rattle.clog_applied.specs.Closed.{IsAnyFile}
 use Rattle.clog_applied.specs.Early.{AreInOrder, AreRunChanges, ComeLast}
 use Rattle.clog_applied.specs.Filed.{BringsNoOther, IsTrueFor}
-use Rattle.clog_applied.specs.History.{LoggedLine, share_of, written_by}
+use Rattle.clog_applied.specs.History.{Line, LoggedLine, share_of, written_by}
 use Rattle.clog_closing.specs.Logs.{id_of}
 
 -- The entries of a log are those of the first of these lines, in order.
@@ -97,10 +96,37 @@ pub record HasGoneInOrder (archives : Bool) (writers : ℕ) (mutations : List Mu
   pub last : ComeLast changes history
   pub are_true : (file : TableFile) → Contains files file → IsTrueFor history file
 
--- Changes by which writers log lines: appends alone, or those of a drain that has begun. Where the
--- writers flush meanwhile nothing is said of them.
+-- The first of these lines, in order.
+pub record AreFirstLines (all first : List Line) : Type 0 where
+  pub rest : List Line
+  pub parts : all ≡ first ++ rest
+
+-- Of a history each writer's lines are the first of its share, in order.
+pub record HoldsFirsts (writers : ℕ) (mutations : List Mutation) (history : List LoggedLine)
+    : Type 0 where
+  pub known : (w : LoggedLine) → Contains history w → w.writer < writers
+  pub firsts : (writer : ℕ) → writer < writers
+      → AreFirstLines (share_of writers writer mutations) (written_by writer history)
+
+-- Changes by which writers flush while they log, however far they have come: entries were appended,
+-- of each writer those of the first lines of its share, in order; and some table files have come,
+-- which are true for these entries, and segments gone, each in its turn. Nothing else was changed.
+pub record HasComeInOrder (archives : Bool) (writers : ℕ) (mutations : List Mutation)
+    (changes : List Change) : Type 0 where
+  pub ids : List ℕ
+  pub history : List LoggedLine
+  pub files : List TableFile
+  pub holds : HoldsFirsts writers mutations history
+  pub is_appended : IsAppended changes ids history
+  pub order : AreInOrder IsAnyFile archives changes ids history files
+  pub only : AreRunChanges archives ids files changes
+  pub are_true : (file : TableFile) → Contains files file → IsTrueFor history file
+
+-- Changes by which writers log lines: where they flush meanwhile, those of writers that have come so
+-- far; else appends alone, or those of a drain that has begun.
 abbrev pub AreMadeFor : Bool → Bool → Bool → ℕ → List Mutation → List Change → Type 0
-AreMadeFor true archives drain writers mutations changes = ⊤
+AreMadeFor true archives drain writers mutations changes =
+    HasComeInOrder archives writers mutations changes
 AreMadeFor false archives drain writers mutations changes =
     AreAppends changes ⊎ ((drain ≡ true) × HasGoneInOrder archives writers mutations changes)
 

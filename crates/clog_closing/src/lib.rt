@@ -13,6 +13,6 @@ pub use laws::{
     segments_may_go_that_are_droppable, stores_are_left,
 };
 pub use rows::{
-    a_drain_leaves_no_entry, a_table_file_holds_what_lasts, segments_go_that_table_files_hold,
-    the_last_segment_alone_is_torn,
+    a_drain_leaves_no_entry, a_table_file_comes_behind_its_entries, a_table_file_holds_what_lasts,
+    segments_go_that_table_files_hold, the_last_segment_alone_is_torn,
 };

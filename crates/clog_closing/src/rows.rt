@@ -1,7 +1,10 @@
-//! Worked rows: which appends bring the segments of a log, and what a keeper may have done beside
-//! its log, and has to have done at the end of a run.
-ghost use Rattle.std.specs.Prelude.{◌≡◌, ◌≤◌, ◌∷◌, ℕ, Bool, [], false, true};
+//! Worked rows: which appends bring the segments of a log; what a keeper may have done beside its
+//! log, and has to have done at the end of a run; and in which order writers that flush change a
+//! disk.
+ghost use Rattle.std.specs.Prelude.{◌≡◌, ◌≤◌, ◌∷◌, ℕ, Bool, List, [], false, true};
+ghost use Rattle.clog_mutation.specs.declared.mutation.Mutation.{Mutation};
 ghost use Rattle.clog_scan.specs.Cut.{Section};
+ghost use Rattle.clog_applied.specs.Worked.{come_early, drained_changes, gone_early, two_lines};
 ghost use Rattle.clog_closing.specs.Beside.{HasFinished, HasGoodDeeds};
 ghost use Rattle.clog_closing.specs.Worked.{both_whole, first_torn, second_torn, two_segments};
 ghost use Rattle.clog_closing.specs.WorkedDeeds.{
@@ -13,7 +16,7 @@ ghost use Rattle.clog_closing.specs.WorkedDeeds.{
   once_gone,
   with_files,
 };
-ghost use Rattle.clog_closing.specs.Written.{IsWrittenBy};
+ghost use Rattle.clog_closing.specs.Written.{HasComeInOrder, IsWrittenBy};
 
 /// Of two segments the last may lack its last section, and the one before it none.
 pub fn the_last_segment_alone_is_torn()
@@ -62,4 +65,17 @@ pub fn a_drain_leaves_no_entry()
     ensures undrained { (at : Setting) → HasFinished false (with_files at []) }
     ensures stays { (at : Setting) (drain : Bool)
         → HasFinished drain (with_files at (file_to 60 ∷ [])) → ⊥ }
+{}
+
+/// Of two lines of one writer the first was appended; then a table file came that holds it, and its
+/// segment went: so far writers that flush may have come. The segment may not go before the file has
+/// come, nor the file come before the entry, nor a line be appended that was not asked for.
+pub fn a_table_file_comes_behind_its_entries()
+    ensures first { HasComeInOrder false 1 two_lines drained_changes }
+    ensures gone_early { (archives : Bool) (writers : ℕ) (mutations : List Mutation)
+        → HasComeInOrder archives writers mutations gone_early → ⊥ }
+    ensures come_early { (archives : Bool) (writers : ℕ) (mutations : List Mutation)
+        → HasComeInOrder archives writers mutations come_early → ⊥ }
+    ensures unasked { (archives : Bool) (writers : ℕ)
+        → HasComeInOrder archives writers [] drained_changes → ⊥ }
 {}

@@ -97,7 +97,7 @@ pub record AddsFirst (before : Files) (mutations : List Mutation) (least : ℕ) 
 -- The run's changes are those of a recovery, and then others whose appends have brought these
 -- segments, in the order of their ids, each of which is above all that the folder named before. By
 -- these so many writers log the lines. Without a flush limit they are appends alone, or those of a
--- drain that has begun, in order.
+-- drain that has begun, in order; with one, those of writers that flush, in order.
 pub record HasWrittenLog (o : Outside) (options : ApplyOptions) (before : Files)
     (mutations : List Mutation) (log : List Write) : Type 0 where
   pub between : Option (List Change)

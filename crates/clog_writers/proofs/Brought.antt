@@ -9,6 +9,7 @@ use Rattle.std.proofs.Common.{
   true,
   false,
   List,
+  [],
   ◌++◌,
   Option,
   Some,
@@ -18,18 +19,22 @@ use Rattle.std.proofs.Common.{
   ◌∙◌,
   ap,
   subst,
+  arith,
 }
 use Rattle.std.specs.Prelude.{Contains, is_some, option_map, ◌⊎◌}
 use Rattle.std.specs.List.{filter}
 use Rattle.std.proofs.lemmas.Bool.{true≢false}
 use base.Stored.{Coded}
 use Rattle.clog_base.specs.declared.sizes.Sizes.{Sizes}
+use Rattle.clog_base.specs.Positions.{ordinal_of}
+use Rattle.clog_base.proofs.Members.{nothing_there}
 use Rattle.clog_disk.specs.declared.change.Change.{Change}
 use Rattle.clog_disk.specs.Files.{Files, SameTold}
 use Rattle.clog_mutation.specs.declared.mutation.Mutation.{Mutation}
 use Rattle.clog_crash.specs.Grown.{appends_of}
 use Rattle.clog_crash.specs.Log.{Write}
 use Rattle.path_core.specs.declared.note.EntryNote.{EntryNote}
+use Rattle.path_core.specs.History.{IsHistory}
 use Rattle.path_core.specs.Keeper.{Holding, PutFile}
 use Rattle.clog_segments.specs.Grows.{AreAppends, segments_with}
 use Rattle.clog_segments.specs.NoteLog.{IsNoteLog}
@@ -49,12 +54,21 @@ use Rattle.clog_segments.specs.StoreState.{
 use Rattle.clog_layout.specs.Ends.{synced_to}
 use Rattle.clog_closing.specs.Stores.{files_by, ids_in}
 use Rattle.clog_closing.proofs.StoreNames.{brings_but_one}
-use Rattle.clog_closing.specs.Drained.{HasBegun, HasNoDeeds, KeepsLog}
-use Rattle.clog_closing.specs.Written.{AreMadeFor, BringsOnly, HasBrought, HasGoneInOrder}
+use Rattle.clog_closing.specs.Beside.{HasGoodDeeds}
+use Rattle.clog_closing.specs.Drained.{GivesNoName, HasBegun, HasNoDeeds, KeepsLog}
+use Rattle.clog_closing.specs.Written.{
+  AreMadeFor,
+  BringsOnly,
+  HasBrought,
+  HasComeInOrder,
+  HasGoneInOrder,
+}
 use Rattle.clog_closing.proofs.Begun.{
   are_true,
   brings,
   comes_last,
+  entries,
+  its_taken,
   log_in,
   run_changes,
   stands,
@@ -64,6 +78,7 @@ use Rattle.clog_closing.proofs.Fresh.{none_done}
 use Rattle.clog_closing.proofs.Good.{filed_on}
 use Rattle.clog_closing.proofs.LastEnd.{up_to_last}
 use Rattle.clog_closing.proofs.Leaving.{told_of}
+use Rattle.clog_closing.proofs.Taken.{none_taken}
 use Rattle.write_path.specs.Closed.{PassesNoSegment}
 use Rattle.clog_writers.specs.Logged.{
   GoesOnBeside,
@@ -74,6 +89,7 @@ use Rattle.clog_writers.specs.Logged.{
   LogsShares,
   is_note_of,
 }
+use Rattle.clog_writers.proofs.Coming.{has_come}
 use Rattle.clog_writers.proofs.Leaving.{history, its_writer, lines, shares}
 
 -- A store that goes on from one that was just opened has the same disk at its opening.
@@ -123,6 +139,24 @@ module _ {D : Type 0} (files : D → Option Files) (changes : D → Option (List
       → HoldFirsts writers ms (e.notes.logged ++ e.notes.kept)
   firsts_on writers ms = subst (HoldFirsts writers ms)
       (sym (ap (λ (h : Holding). h.logged ++ h.kept) keeps))
+
+  -- and what is kept stands behind them in order
+  pub in_log_on : (capacity : ℕ) → IsHistory capacity (b.notes.logged ++ b.notes.kept)
+      → IsHistory capacity (e.notes.logged ++ e.notes.kept)
+  in_log_on capacity = subst (IsHistory capacity)
+      (sym (ap (λ (h : Holding). h.logged ++ h.kept) keeps))
+
+  -- None of that lies in a segment that was dropped.
+  pub apart_on : HasGoodDeeds (Held b) → (e ≡ b) ⊎ (e.notes.kept ≡ []) → (n : EntryNote)
+      → Contains e.notes.kept n → Contains e.dropped (ordinal_of n.start.0) → ⊥
+  apart_on good stays n kept dropped = elim stays [
+    | inl same ↦
+        let o = ordinal_of n.start.0 in
+        let may =
+        good.droppable o (subst (λ (x : StoreState D). Contains x.dropped o) same dropped) in
+        may.none_kept n (subst (λ (x : StoreState D). Contains x.notes.kept n) same kept) refl
+    | inr none ↦ nothing_there n (subst (λ (l : List EntryNote). Contains l n) none kept)
+  ]
 
   -- what was flushed is, where each file that was put is there
   share_on : (most t writer : ℕ)
@@ -207,8 +241,9 @@ module _ {D : Type 0} (files : D → Option Files) (changes : D → Option (List
 
   module _ (appends : AppendsAlone changes e) (ordered : HasOrdered changes e)
       (settled : AreSettled e.notes e.files) (notes : IsNoteLog e.notes)
-      (sound : IsSound e.notes.log) (drain : Bool) (sizes : Sizes) (base : ℕ)
-      (ms : List Mutation) where
+      (sound : IsSound e.notes.log) (apart : (n : EntryNote) → Contains e.notes.kept n
+      → Contains e.dropped (ordinal_of n.start.0) → ⊥) (drain : Bool) (sizes : Sizes)
+      (base : ℕ) (ms : List Mutation) where
     abbrev pub Brings : Bool → Type 0
     Brings flushing =
         HasBrought changes a.notes.log.disk e.notes.log.disk a.notes.base flushing a.archives drain
@@ -232,29 +267,42 @@ module _ {D : Type 0} (files : D → Option Files) (changes : D → Option (List
           λ plain. inl has.alone,
         )
 
+    -- the entries that the disk has taken are all that are logged
+    all_taken : e.notes.kept ≡ []
+        → entries changes e ordered settled notes sound apart (Held e) ≡ e.notes.logged
+    all_taken none =
+        none_taken e.notes.base e.notes.logged e.notes.kept _
+        (its_taken changes e ordered settled notes sound apart (Held e)) none
+
     has_gone : LogsShares sizes base ms (Held e) → HasBegun (Held e) (synced_to e.notes.logged)
         → HasGoneInOrder e.archives sizes.writers ms ordered.growth.added
     has_gone logs begun =
         let of = e.notes.base in
-        let h = logs.notes in
-        let its = history sizes of ms e.notes.logged h in
-        let are = lines sizes of ms e.notes.logged h in
-        let low = up_to_last sizes.capacity e.notes.logged h.lawful in
+        let its_own = entries changes e ordered settled notes sound apart (Held e) in
+        let all = all_taken logs.none_kept in
+        let h = subst (HoldShares sizes.capacity sizes.writers ms) (sym all) logs.notes in
+        let its = history sizes of ms its_own h in
+        let are = lines sizes of ms its_own h in
+        let low = up_to_last sizes.capacity e.notes.logged logs.notes.lawful in
         record {
-          ids = ids_in (log_in changes e ordered notes sound logs.none_kept);
+          ids = ids_in (log_in changes e ordered settled notes sound apart (Held e));
           history = its;
-          files = files_by (log_in changes e ordered notes sound logs.none_kept) (deeds_by e);
-          known = its_writer sizes of ms e.notes.logged h;
-          shares = λ writer. shares sizes of ms e.notes.logged h sizes.writers writer refl;
-          is_appended =
-              brings changes e ordered notes sound logs.none_kept sizes its h.lawful are;
-          order = stands changes e ordered notes sound logs.none_kept sizes its h.lawful are;
-          only = run_changes changes e ordered notes sound logs.none_kept sizes its h.lawful are
-              begun.none_archived;
-          last = comes_last changes e ordered notes sound logs.none_kept sizes its h.lawful are
-              settled begun.wide low;
-          are_true = are_true changes e ordered notes sound logs.none_kept sizes its h.lawful are
-              settled begun.wide low (Held e);
+          files = files_by (log_in changes e ordered settled notes sound apart (Held e))
+              (deeds_by e);
+          known = its_writer sizes of ms its_own h;
+          shares = λ writer. shares sizes of ms its_own h sizes.writers writer refl;
+          is_appended = brings changes e ordered settled notes sound apart (Held e) sizes its
+              h.lawful are;
+          order = stands changes e ordered settled notes sound apart (Held e) sizes its h.lawful
+              are;
+          only = run_changes changes e ordered settled notes sound apart (Held e) sizes its h.lawful
+              are begun.none_archived;
+          last = comes_last changes e ordered settled notes sound apart (Held e) sizes its h.lawful
+              are (λ put among n listed.
+              let end = low n (subst (λ (l : List EntryNote). Contains l n) all listed) in
+              let up = (begun.wide put among).1 in omega (arith, end, up));
+          are_true = are_true changes e ordered settled notes sound apart (Held e) sizes its
+              h.lawful are;
         }
 
     by_drain : drain ≡ true → LogsShares sizes base ms (Held e)
@@ -268,12 +316,25 @@ module _ {D : Type 0} (files : D → Option Files) (changes : D → Option (List
       λ plain. inr logs,
     )
 
-    pub brings_shares : (flushing : Bool) → (flushing ≡ false → IsBegun) → IsBrought flushing
-    brings_shares true begun = (
-      brought_by ordered.growth notes true a.archives drain sizes.writers ms tt,
+    -- where writers flush, what was appended are the first of each share
+    by_flushes : HoldFirsts sizes.writers ms (e.notes.logged ++ e.notes.kept)
+        → IsHistory sizes.capacity (e.notes.logged ++ e.notes.kept) → GivesNoName (Held e)
+        → IsBrought true
+    by_flushes held in_log names = (
+      brought_by ordered.growth notes true a.archives drain sizes.writers ms
+          (subst (λ (x : Bool). HasComeInOrder x sizes.writers ms ordered.growth.added)
+          its_archives
+          (has_come changes e ordered settled notes sound apart (Held e) sizes ms held in_log
+          names)),
       λ plain. absurd (true≢false plain),
     )
-    brings_shares false begun = elim (begun refl) [
+
+    pub brings_shares : (flushing : Bool) → (flushing ≡ false → IsBegun)
+        → HoldFirsts sizes.writers ms (e.notes.logged ++ e.notes.kept)
+        → IsHistory sizes.capacity (e.notes.logged ++ e.notes.kept) → GivesNoName (Held e)
+        → IsBrought flushing
+    brings_shares true begun held in_log names = by_flushes held in_log names
+    brings_shares false begun held in_log names = elim (begun refl) [
       | inl none ↦ by_appends none
       | inr part ↦ by_drain part.0 part.1 part.2
     ]

@@ -70,7 +70,7 @@ use Rattle.clog_layout.specs.Logged.{AreEntriesOf, AreNotesOf}
 use Rattle.clog_layout.proofs.Lines.{are_notes, lines_for}
 use Rattle.clog_closing.proofs.Logs.{payload_is, places_are}
 use Rattle.clog_closing.proofs.Tables.{note_of_line}
-use Rattle.clog_closing.specs.Written.{GoesBeyond, HasBrought}
+use Rattle.clog_closing.specs.Written.{GoesBeyond, HasBrought, HoldsFirsts}
 use Rattle.clog_closing.proofs.Showing.{
   noted_payload,
   of_log,
@@ -81,7 +81,6 @@ use Rattle.clog_closing.proofs.Showing.{
   with_hand,
 }
 use Rattle.clog_writers.specs.Left.{
-  HoldsFirsts,
   LeavesShares,
   RestoresShares,
   SaysShares,
@@ -124,7 +123,7 @@ noted_lines base (n ∷ ns) (w ∷ ws) are =
     ∙ ap (λ (ps : List (List ℕ)). payload_of w.mutation ∷ ps) (noted_lines base ns ws are.1)
 
 -- whose they are
-holds_firsts : (base writers : ℕ) (ms : List Mutation) (notes : List EntryNote)
+pub holds_firsts : (base writers : ℕ) (ms : List Mutation) (notes : List EntryNote)
     (history : List LoggedLine) → AreNotesOf base notes history → HoldFirsts writers ms notes
     → HoldsFirsts writers ms history
 holds_firsts base writers ms notes history are held = record {

@@ -3,6 +3,7 @@ use Rattle.std.proofs.Common.{
   ◌≡◌,
   ℕ,
   ◌<◌,
+  ◌≤◌,
   inl,
   inr,
   List,
@@ -26,6 +27,7 @@ use Rattle.std.specs.Prelude.{Contains}
 use Rattle.std.specs.List.{filter}
 use Rattle.std.proofs.lemmas.Bool.{cases_lt}
 use Rattle.std.proofs.lemmas.List.Elements.{Contains-append_left, filter-append}
+use Rattle.std.proofs.lemmas.List.Kept.{AllPairs-filter}
 use Rattle.std.proofs.lemmas.List.Sorted.{Contains-permutation, IsPermutation-sym}
 use Rattle.atomic_table.specs.Seated.{TableId}
 use Rattle.clog_base.proofs.Members.{here, nothing_there}
@@ -33,12 +35,14 @@ use Rattle.clog_mutation.specs.declared.mutation.Mutation.{Mutation}
 use Rattle.clog_applied.specs.History.{share_of}
 use Rattle.clog_applied.proofs.Lists.{from_filter}
 use Rattle.path_core.specs.declared.note.EntryNote.{EntryNote}
+use Rattle.path_core.specs.History.{IsHistory}
 use Rattle.path_core.specs.Keeper.{Holding}
 use Rattle.path_core.specs.LawfulLog.{is_at_most}
 use Rattle.path_core.specs.Next.{is_between}
 use Rattle.path_core.proofs.log.Between.{between}
 use Rattle.path_rule.specs.declared.view.PathSize.{PathSize}
 use Rattle.path_table.specs.declared.trying.PathSeat.{PathSeat}
+use Rattle.clog_layout.proofs.Pairs.{pairs_none}
 use Rattle.write_path.specs.Closed.{IsOutcome, all_writes}
 use Rattle.clog_writers.specs.declared.fault.WriteFault.{WriteFault}
 use Rattle.clog_writers.specs.Crews.{HaveEnded}
@@ -59,6 +63,12 @@ pub none_held : (writers : ℕ) (ms : List Mutation) (notes : List EntryNote) �
 none_held writers ms notes none = subst (HoldFirsts writers ms) (sym none) (record {
   known = λ n among. absurd (nothing_there n among);
   firsts = λ w low. record { done = []; left = share_of writers w ms; parts = refl; are = tt };
+})
+
+pub none_in_log : (capacity : ℕ) (notes : List EntryNote) → notes ≡ [] → IsHistory capacity notes
+none_in_log capacity notes none = subst (IsHistory capacity) (sym none) (record {
+  each = λ n among. absurd (nothing_there n among);
+  apart = pairs_none (λ (a b : EntryNote). a.end.0 ≤ b.start.0);
 })
 
 no_member : {A : Type 0} (xs : List A) → ((x : A) → Contains xs x → ⊥) → xs ≡ []
@@ -125,6 +135,16 @@ module _ {K : Type 0} (id : TableId) (size : PathSize) (flush : Option ℕ)
           ∙ append-nil (filter (is_at_most h.synced) notes),
     )
   ]
+
+  -- in the order of the log, none over another
+  pub in_order : IsHistory size.capacity (h.logged ++ h.kept)
+  in_order =
+      let pass = is_at_most reached.0 in
+      subst (IsHistory size.capacity) (sym reached.1) (record {
+        each = λ n among. o.lawful.each n (from_filter pass notes n among).0;
+        apart = AllPairs-filter (λ (a b : EntryNote). a.end.0 ≤ b.start.0) pass notes
+            o.lawful.apart;
+      })
 
   its_first : (top w : ℕ) → w < size.seats
       → AreFirstWrites w (share_of size.seats w mutations)

@@ -22,6 +22,7 @@ pub mod Slots
 pub mod Counted
 pub mod Crashing
 pub mod LeftBy
+mod Coming
 pub mod OneWriter
 pub mod Settling
 pub mod Brought

@@ -37,6 +37,7 @@ use Rattle.atomic_table.specs.Seated.{TableId}
 use Rattle.clog_base.specs.declared.sizes.Sizes.{Sizes}
 use Rattle.clog_mutation.specs.declared.mutation.Mutation.{Mutation}
 use Rattle.path_core.specs.declared.note.EntryNote.{EntryNote}
+use Rattle.path_core.specs.History.{IsHistory}
 use Rattle.path_core.specs.Keeper.{Holding, IsFresh, PutFile}
 use Rattle.path_rule.specs.declared.lasting.Lasting.{Lasting}
 use Rattle.path_rule.specs.declared.view.PathSize.{PathSize}
@@ -90,7 +91,13 @@ use Rattle.clog_writers.specs.Logged.{
 use Rattle.clog_writers.specs.Sealing.{WaitShares}
 use Rattle.clog_writers.proofs.Ending.{hold_shares, none_kept}
 use Rattle.clog_writers.proofs.FiledWell.{has_good}
-use Rattle.clog_writers.proofs.FirstLogged.{hold_firsts, none_held, none_written}
+use Rattle.clog_writers.proofs.FirstLogged.{
+  hold_firsts,
+  in_order,
+  none_held,
+  none_in_log,
+  none_written,
+}
 use Rattle.clog_writers.proofs.FlushedShares.{have_flushed}
 use Rattle.clog_writers.proofs.Opening.{newest_opened}
 use Rattle.clog_writers.proofs.ShareUpdates.{all_paid_for}
@@ -219,6 +226,7 @@ module _ {K : Type 0} (sizes : Sizes) (flush : Option ℕ) (base : ℕ) (before 
     logs = λ ms dealt none. absurd (none-some OutOfMemory (sym none));
     flushed = λ ms dealt none. absurd (none-some OutOfMemory (sym none));
     firsts = λ ms dealt. none_held sizes.writers ms (now.logged ++ now.kept) empty;
+    in_log = λ ms dealt. none_in_log sizes.capacity (now.logged ++ now.kept) empty;
     stops = λ at_open n is. absurd (not_stopped at_open n is);
     spent = λ ms dealt no. absurd (let q : OutOfMemory ≡ Spent =
         same_Some OutOfMemory Spent no in cc);
@@ -314,6 +322,9 @@ module _ {K : Type 0} (sizes : Sizes) (flush : Option ℕ) (base : ℕ) (before 
         firsts = λ ms given.
             subst (λ (z : PathSize). HoldFirsts z.seats ms (now.logged ++ now.kept)) is
             (hold_firsts id size flush ms fault seats (ended ms given) end now o);
+        in_log = λ ms given.
+            subst (λ (z : PathSize). IsHistory z.capacity (now.logged ++ now.kept)) is
+            (in_order id size flush ms fault seats (ended ms given) end now o);
         stops = λ a n stopped.
             let one = (ended some dealt).stops a n stopped in
             let so = All-contains (AreStoppedFor now) seats one.0 o.all_stopped one.1 n one.2.1

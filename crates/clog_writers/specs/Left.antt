@@ -2,14 +2,11 @@
 use Rattle.std.specs.Prelude.{
   ◌≡◌,
   ℕ,
-  ◌<◌,
   List,
-  ◌++◌,
   length,
   map,
   Bool,
   false,
-  Contains,
   Option,
   Result,
   Ok,
@@ -23,23 +20,18 @@ use Rattle.clog_mutation.specs.declared.mutation.Mutation.{Mutation}
 use Rattle.clog_crash.specs.Log.{NoChances, Write}
 use Rattle.clog_crash.specs.Readings.{Reading}
 use Rattle.clog_crash.specs.Runs.{placed_of}
-use Rattle.clog_applied.specs.History.{Line, LoggedLine, entry_of, share_of, written_by}
-use Rattle.clog_closing.specs.Written.{BringsOnly, GoesBeyond, HasBrought, RestoresLines}
+use Rattle.clog_applied.specs.History.{LoggedLine, entry_of}
+use Rattle.clog_closing.specs.Written.{
+  BringsOnly,
+  GoesBeyond,
+  HasBrought,
+  HoldsFirsts,
+  RestoresLines,
+}
 use Rattle.clog_writers.specs.declared.fault.WriteFault.{WriteFault}
 
--- The first of these lines, in order.
-pub record AreFirstLines (all first : List Line) : Type 0 where
-  pub rest : List Line
-  pub parts : all ≡ first ++ rest
-
--- Of a history each writer's lines are the first of its share, in order.
-pub record HoldsFirsts (writers : ℕ) (mutations : List Mutation) (history : List LoggedLine)
-    : Type 0 where
-  pub known : (w : LoggedLine) → Contains history w → w.writer < writers
-  pub firsts : (writer : ℕ) → writer < writers
-      → AreFirstLines (share_of writers writer mutations) (written_by writer history)
-
--- The entries of a log are those of such a history, in order, each at its place.
+-- The entries of a log are those of a history of which each writer's lines are the first of its
+-- share, in order, each at its place.
 pub record SaysShares (writers : ℕ) (mutations : List Mutation) (log : List Write)
     (history : List LoggedLine) : Type 0 where
   pub holds : HoldsFirsts writers mutations history

@@ -137,6 +137,9 @@ pub record EndsShares {K : Type 0} (sizes : Sizes) (flush : Option ℕ) (base : 
       → fault ≡ None → HaveFlushedShares flush sizes.writers now
   pub firsts : (mutations : List Mutation) → AreDealt sizes flush mutations workers
       → HoldFirsts sizes.writers mutations (now.logged ++ now.kept)
+  -- which stand in the order of the log, none over another
+  pub in_log : (mutations : List Mutation) → AreDealt sizes flush mutations workers
+      → IsHistory sizes.capacity (now.logged ++ now.kept)
   -- the counts that are told are the keeper's
   pub stops : (at_open count : ℕ) → fault ≡ Some (Stopped at_open count)
       → (at_open ≡ now.at_open) × (count ≡ now.faults) × (now.stopped ≡ true)

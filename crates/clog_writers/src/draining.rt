@@ -19,7 +19,13 @@ ghost use Rattle.std.specs.Prelude.{
 ghost use Rattle.clog_io.specs.Causes.{Rose};
 ghost use Rattle.clog_layout.specs.Ends.{synced_to};
 ghost use Rattle.clog_closing.specs.Beside.{HasGoodDeeds};
-ghost use Rattle.clog_closing.specs.Drained.{EndsAs, HasBegun, HasNoDeeds, KeepsLog};
+ghost use Rattle.clog_closing.specs.Drained.{
+  EndsAs,
+  GivesNoName,
+  HasBegun,
+  HasNoDeeds,
+  KeepsLog,
+};
 ghost use Rattle.clog_spec.specs.Sizes.{most_tables};
 ghost use Rattle.path_core.specs.History.{IsHistory};
 ghost use Rattle.path_core.specs.Keeper.{upper_from};
@@ -91,6 +97,10 @@ fn settle<D: Disk>(alloc: Global, store: &mut Store<D>, drain: bool) -> Result<(
         → HasBegun
         (holding_of D.files D.changes D.moment D.faults D.row.coded.code store.new)
         (synced_to store.old.notes.logged) }
+    ensures names { GivesNoName
+        (holding_of D.files D.changes D.moment D.faults D.row.coded.code store.old)
+        → GivesNoName
+        (holding_of D.files D.changes D.moment D.faults D.row.coded.code store.new) }
     ensures keeps { KeepsLog
         (holding_of D.files D.changes D.moment D.faults D.row.coded.code store.old)
         (holding_of D.files D.changes D.moment D.faults D.row.coded.code store.new) }
@@ -115,9 +125,9 @@ fn refused_as(fault: KeeperFault) -> WriteFault
 }
 
 /// Ends what a run does with a store whose lines were to be logged, where they were: `fault` is why
-/// not all of them are, `at_open` the disk's count of faults at the opening. With `drain` it puts
-/// what lies in no table file yet; with it, or where writers were `flushing`, all segments go that
-/// may. It gives back why not all was done.
+/// not all of them are, and then the store stays; `at_open` is the disk's count of faults at the
+/// opening. With `drain` it puts what lies in no table file yet; with it, or where writers were
+/// `flushing`, all segments go that may. It gives back why not all was done.
 pub(crate) fn settle_asked<D: Disk>(
     alloc: Global,
     store: &mut Store<D>,
@@ -150,6 +160,9 @@ pub(crate) fn settle_asked<D: Disk>(
     ensures keeps { KeepsLog
         (holding_of D.files D.changes D.moment D.faults D.row.coded.code store.old)
         (holding_of D.files D.changes D.moment D.faults D.row.coded.code store.new) }
+    ensures names { GivesNoName
+        (holding_of D.files D.changes D.moment D.faults D.row.coded.code store.new) }
+    ensures stays { (store.new ≡ store.old) ⊎ (fault ≡ None) }
     ensures first { store.new.first ≡ store.old.first }
     ensures stopped { (a n : ℕ) → result ≡ Some (Stopped a n)
         → (store.new.notes.log.is_stopped ≡ true)

@@ -3,7 +3,7 @@
 ghost use Rattle.std.specs.Prelude.{◌≡◌, ℕ, List, [], ◌∷◌, Option, None, Some, replicate, reverse};
 ghost use Rattle.clog_crash.specs.Worked.{the_mutation};
 ghost use Rattle.clog_mutation.specs.declared.mutation.Mutation.{Mutation};
-ghost use Rattle.clog_writers.specs.Left.{HoldsFirsts};
+ghost use Rattle.clog_closing.specs.Written.{HoldsFirsts};
 ghost use Rattle.clog_writers.specs.Logged.{HasManyUpdates};
 ghost use Rattle.clog_writers.specs.Tallied.{IsTallied};
 ghost use Rattle.clog_writers.specs.Worked.{

@@ -115,7 +115,9 @@ fn disks_read_now<D: Disk>(_store: &Store<D>)
 /// Whatever is answered, the appends among the disk's further changes have brought segments, and no
 /// other names have come than those of these, their archive names and table files. Without
 /// `flush_at` the changes are appends alone; with `drain` perhaps true table files and removals
-/// behind them, in order, once all lines are logged. Where all lasted before, each image of a crash
+/// behind them, in order, once all lines are logged. With it true table files and removals stand
+/// among the appends, each in its turn: a file behind the entries that it stands for, a removal
+/// behind the files that hold its segment. Where all lasted before, each image of a crash
 /// since then restores what the folder restored, and lines of the plan, of each writer the first of
 /// its share; at `Ok`, and without `flush_at` once the changes go beyond appends, each image of now
 /// restores all lines. Each file that was there stands as it was.

@@ -2,7 +2,7 @@ use Rattle.std.proofs.Common.{◌≡◌, ℕ, ◌<◌, inl, inr, List, [], ◌�
 use Rattle.std.proofs.lemmas.Bool.{cases_eq}
 use Rattle.clog_base.proofs.Members.{first_or_further, nothing_there}
 use Rattle.clog_applied.specs.History.{Line, LoggedLine, share_of, written_by}
-use Rattle.clog_writers.specs.Left.{AreFirstLines}
+use Rattle.clog_closing.specs.Written.{AreFirstLines}
 use Rattle.clog_writers.specs.Worked.{all_three, line_by, second_alone, three_lines}
 use Rattle.clog_writers.proofs.rows.a_line_comes_behind_the_earlier_ones_of_its_writer.Goals as goal
 

@@ -16,12 +16,14 @@ use Rattle.clog_writers.specs.Left.{WritesShares, least_of}
 use Rattle.clog_writers.specs.Placed.{AreAtTheirLines}
 use Rattle.clog_writers.specs.Written.{HasReceipts, AsksFor, TellsWrittenShares}
 use Rattle.clog_writers.proofs.Brought.{
+  apart_on,
   begun_on,
   brings_only,
   brings_shares,
   first_disk,
   firsts_on,
   flushed_on,
+  in_log_on,
   its_archives,
   its_disk,
   logs_on,
@@ -93,14 +95,20 @@ returns-clause-wrote g c = λ ms plan.
     let logs = λ (none : _). logs_on D.files D.changes D.moment D.faults g.row.D.coded a b e f
     c.requires.fresh shares.beside settled.keeps settled.first sizes base ms
     (shares.logs ms plan.dealt none) in
-    let has = brings_shares D.files D.changes D.moment D.faults g.row.D.coded a b e f
-    c.requires.fresh shares.beside settled.keeps settled.first told.alone told.ordered told.settled
-    told.notes told.sound c.args.drain sizes base ms (is_some f)
-    (λ plain. begun_on D.files D.changes D.moment D.faults g.row.D.coded a b e f c.requires.fresh
-    shares.beside settled.keeps settled.first c.args.drain _ _
-    (settled.begun (c.is_some-flushing.ensures ∙ plain)) logs) in
     let held = firsts_on D.files D.changes D.moment D.faults g.row.D.coded a b e f c.requires.fresh
     shares.beside settled.keeps settled.first sizes.writers ms (shares.firsts ms plan.dealt) in
+    let apart = apart_on D.files D.changes D.moment D.faults g.row.D.coded a b e f
+    c.requires.fresh shares.beside settled.keeps settled.first shares.beside.good
+    (elim settled.stays [ inl same ↦ inl same | inr none ↦ inr (logs none).none_kept ]) in
+    let in_log = in_log_on D.files D.changes D.moment D.faults g.row.D.coded a b e f
+    c.requires.fresh shares.beside settled.keeps settled.first sizes.capacity
+    (shares.in_log ms plan.dealt) in
+    let has = brings_shares D.files D.changes D.moment D.faults g.row.D.coded a b e f
+    c.requires.fresh shares.beside settled.keeps settled.first told.alone told.ordered told.settled
+    told.notes told.sound apart c.args.drain sizes base ms (is_some f)
+    (λ plain. begun_on D.files D.changes D.moment D.faults g.row.D.coded a b e f c.requires.fresh
+    shares.beside settled.keeps settled.first c.args.drain _ _
+    (settled.begun (c.is_some-flushing.ensures ∙ plain)) logs) held in_log settled.names in
     subst (λ (d : g.row.D.Denot). WritesShares D.files D.changes a.notes.log.disk d a.notes.base
     (is_some f) a.archives c.args.drain sizes.writers ms) (sym told.disk)
     (record {
@@ -153,12 +161,18 @@ returns-clause-shown g c = λ ms opened plan is lasted.
     let logs = λ (none : _). logs_on D.files D.changes D.moment D.faults g.row.D.coded a b e f
     c.requires.fresh shares.beside settled.keeps settled.first sizes base ms
     (shares.logs ms plan.dealt none) in
+    let apart = apart_on D.files D.changes D.moment D.faults g.row.D.coded a b e f
+    c.requires.fresh shares.beside settled.keeps settled.first shares.beside.good
+    (elim settled.stays [ inl same ↦ inl same | inr none ↦ inr (logs none).none_kept ]) in
+    let in_log = in_log_on D.files D.changes D.moment D.faults g.row.D.coded a b e f
+    c.requires.fresh shares.beside settled.keeps settled.first sizes.capacity
+    (shares.in_log ms plan.dealt) in
     let has = brings_shares D.files D.changes D.moment D.faults g.row.D.coded a b e f
     c.requires.fresh shares.beside settled.keeps settled.first told.alone told.ordered told.settled
-    told.notes told.sound c.args.drain sizes base ms (is_some f)
+    told.notes told.sound apart c.args.drain sizes base ms (is_some f)
     (λ plain. begun_on D.files D.changes D.moment D.faults g.row.D.coded a b e f c.requires.fresh
     shares.beside settled.keeps settled.first c.args.drain _ _
-    (settled.begun (c.is_some-flushing.ensures ∙ plain)) logs) in
+    (settled.begun (c.is_some-flushing.ensures ∙ plain)) logs) held in_log settled.names in
     left_by D.files D.changes D.moment D.since D.leaves D.read_at D.lasted_at
     c.disks_read_now.ensures a.notes.log.disk e
     (its_disk D.files D.changes D.moment D.faults g.row.D.coded a b e f c.requires.fresh
