@@ -26,7 +26,7 @@ use Rattle.path_core.specs.Keeper.{DropRefused, Drops, Holding, Opening, PutFile
 use Rattle.clog_memtable.specs.declared.flushing.Memtable.{Memtable}
 use Rattle.clog_memtable.specs.Flushing.{HasPutFiles, file_of, files_of}
 use Rattle.clog_memtable.specs.Touched.{AreMemtablesOf}
-use Rattle.clog_closing.specs.Drained.{GivesNoName, HasBegun, HasNoDeeds, ReachTo}
+use Rattle.clog_closing.specs.Drained.{HasBegun, HasNoDeeds, ReachTo}
 
 -- the memtables of notes reach so far, where no table has a file yet
 pub reach_of : (notes : List EntryNote) (lowers : ℕ → ℕ) (upper below : ℕ) (ms : List Memtable)
@@ -55,13 +55,6 @@ module _ (upper : ℕ) (ms : List Memtable) (reach : ReachTo upper ms) where
         sym (ap (λ (f : PutFile). f.upper) m.2) ∙ is.1,
       )
 
--- no segment has got an archive name by that
-pub names_put : (before now : Holding) (files : List PutFile) → HasPutFiles before now files
-    → GivesNoName before → GivesNoName now
-names_put before now files put none archives =
-    ap (λ (h : Holding). h.archived) put
-    ∙ none (sym (ap (λ (h : Holding). h.opening.archives) put) ∙ archives)
-
 -- those of all memtables, or of the first of them
 pub begun_put : (upper : ℕ) (ms : List Memtable) → ReachTo upper ms → (before now : Holding)
     (count : ℕ) → HasPutFiles before now (files_of (take count ms)) → HasBegun before upper
@@ -74,7 +67,9 @@ begun_put upper ms reach before now count put begun = record {
             (subst (λ (l : List Memtable). Contains l m) (take-append-drop count ms)
             (Contains-append_left (take count ms) (drop count ms) m h))) f new
       ];
-  none_archived = names_put before now (files_of (take count ms)) put begun.none_archived;
+  none_archived = λ archives.
+      ap (λ (h : Holding). h.archived) put
+      ∙ begun.none_archived (sym (ap (λ (h : Holding). h.opening.archives) put) ∙ archives);
 }
 
 -- ---- segments that went
@@ -84,44 +79,30 @@ pub none_with : (h : Holding) (ordinals : List ℕ) → h.opening.archives ≡ f
 none_with h ordinals archives none =
     ap (λ (b : Bool). if b then h.archived ++ ordinals else h.archived) archives ∙ none
 
-names_as : (before now : Holding) → now.opening ≡ before.opening
-    → (before.opening.archives ≡ false → before.archived ≡ [] → now.archived ≡ [])
-    → GivesNoName before → GivesNoName now
-names_as before now opening archived none archives =
-    let had = sym (ap (λ (o : Opening). o.archives) opening) ∙ archives in
-    archived had (none had)
-
-pub names_drop : (before now : Holding) (closed count : ℕ) → Drops before now closed count
-    → GivesNoName before → GivesNoName now
-names_drop before now closed count drops =
-    names_as before now (ap (λ (h : Holding). h.opening) drops.holds) (λ archives none.
-    ap (λ (h : Holding). h.archived) drops.holds
-    ∙ none_with before drops.ordinals archives none)
-
-pub names_refused : (before now : Holding) (closed : ℕ) → DropRefused before now closed
-    → GivesNoName before → GivesNoName now
-names_refused before now closed drops =
-    names_as before now (ap (λ (h : Holding). h.opening) drops.holds) (λ archives none.
-    elim drops.named [
-      | inl same ↦ same ∙ none_with before drops.ordinals archives none
-      | inr next ↦ next.2 ∙ none_with before (drops.ordinals ++ next.0 ∷ []) archives none
-    ])
-
 begun_as : (upper : ℕ) (before now : Holding) → now.files ≡ before.files
-    → (GivesNoName before → GivesNoName now) → HasBegun before upper → HasBegun now upper
-begun_as upper before now files names begun = record {
+    → now.opening ≡ before.opening
+    → (before.opening.archives ≡ false → before.archived ≡ [] → now.archived ≡ [])
+    → HasBegun before upper → HasBegun now upper
+begun_as upper before now files opening archived begun = record {
   wide = λ f among. begun.wide f (subst (λ (l : List PutFile). Contains l f) files among);
-  none_archived = names begun.none_archived;
+  none_archived = λ archives.
+      let had = sym (ap (λ (o : Opening). o.archives) opening) ∙ archives in
+      archived had (begun.none_archived had);
 }
 
 pub begun_drop : (upper : ℕ) (before now : Holding) (closed count : ℕ)
     → Drops before now closed count → HasBegun before upper → HasBegun now upper
 begun_drop upper before now closed count drops =
     begun_as upper before now (ap (λ (h : Holding). h.files) drops.holds)
-    (names_drop before now closed count drops)
+    (ap (λ (h : Holding). h.opening) drops.holds) (λ archives none.
+    ap (λ (h : Holding). h.archived) drops.holds
+    ∙ none_with before drops.ordinals archives none)
 
 pub begun_refused : (upper : ℕ) (before now : Holding) (closed : ℕ)
     → DropRefused before now closed → HasBegun before upper → HasBegun now upper
 begun_refused upper before now closed drops =
     begun_as upper before now (ap (λ (h : Holding). h.files) drops.holds)
-    (names_refused before now closed drops)
+    (ap (λ (h : Holding). h.opening) drops.holds) (λ archives none. elim drops.named [
+      | inl same ↦ same ∙ none_with before drops.ordinals archives none
+      | inr next ↦ next.2 ∙ none_with before (drops.ordinals ++ next.0 ∷ []) archives none
+    ])

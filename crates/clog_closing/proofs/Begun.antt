@@ -32,6 +32,7 @@ use Rattle.clog_base.specs.Positions.{ordinal_of}
 use Rattle.clog_base.proofs.Members.{from_map, nothing_there}
 use Rattle.clog_cells.proofs.Merging.{of_same}
 use Rattle.clog_disk.specs.declared.change.Change.{Change}
+use Rattle.clog_disk.specs.Files.{Files}
 use Rattle.clog_crash.specs.Grown.{appends_of}
 use Rattle.clog_crash.specs.Log.{Write}
 use Rattle.clog_crash.specs.Sections.{IsStored}
@@ -42,7 +43,7 @@ use Rattle.path_core.specs.History.{IsHistory}
 use Rattle.path_core.specs.Keeper.{Holding, IsLoggedCell, PutFile}
 use Rattle.path_core.specs.Keys.{after}
 use Rattle.path_core.specs.Whole.{IsWhole}
-use Rattle.clog_segments.specs.NoteLog.{HasLog, IsNoteLog}
+use Rattle.clog_segments.specs.NoteLog.{EndsThere, HasLog, IsNoteLog}
 use Rattle.clog_segments.specs.OnDisk.{file_on}
 use Rattle.clog_segments.specs.StoreFolder.{Deeds, IsSound, StoreLog, log_of}
 use Rattle.clog_segments.specs.StoreOrder.{AreOrdered, AreSettled}
@@ -51,11 +52,19 @@ use Rattle.clog_store.proofs.OrderGoes.{ordered_appended}
 use Rattle.clog_applied.specs.Appended.{IsAppended}
 use Rattle.clog_applied.specs.Closed.{IsAnyFile}
 use Rattle.clog_applied.specs.Early.{AreInOrder, AreRunChanges, ComeLast}
-use Rattle.clog_applied.specs.Filed.{IsTrueFor}
+use Rattle.clog_applied.specs.Filed.{HoldsSome, IsTrueFor}
 use Rattle.clog_applied.specs.History.{LoggedLine}
+use Rattle.clog_applied.specs.Onward.{EndsNear}
 use Rattle.clog_layout.specs.Logged.{AreNotesOf}
+use Rattle.clog_layout.proofs.Lines.{lawful}
+use Rattle.clog_closing.specs.Beside.{HoldsNote}
+use Rattle.clog_closing.specs.Sequence.{AreInSequence}
 use Rattle.clog_closing.specs.Stores.{GoesInOrder, files_by, ids_in}
+use Rattle.clog_closing.specs.Written.{AllStand, AreInTurn}
+use Rattle.clog_closing.proofs.Filing.{holds_some}
+use Rattle.clog_closing.proofs.Following.{follow}
 use Rattle.clog_closing.proofs.Logs.{is_appended}
+use Rattle.clog_closing.proofs.Reaches.{near_put}
 use Rattle.clog_closing.proofs.StoreOnly.{come_last, only}
 use Rattle.clog_closing.proofs.StoreOrdered.{in_order as runs_in_order}
 use Rattle.clog_closing.proofs.Tables.{is_true}
@@ -121,7 +130,7 @@ module _ {D : Type 0} (changes : D → Option (List Change)) (b : StoreState D)
 
   -- ---- files end in front of what is kept
 
-  abbrev own : Holding
+  abbrev pub own : Holding
   own = record k {
     base = b.notes.base;
     sizes = b.notes.sizes;
@@ -173,18 +182,18 @@ module _ {D : Type 0} (changes : D → Option (List Change)) (b : StoreState D)
     }
 
     -- what was appended is the history
-    pub brings : IsAppended growth.added (ids_in log_in) history
+    brings : IsAppended growth.added (ids_in log_in) history
     brings =
         is_appended growth.added b.notes.base past id growth.part entries history
         goes.grown goes.stored goes.places goes.notes
 
     -- and the changes stand in order
-    pub stands : AreInOrder IsAnyFile b.archives growth.added (ids_in log_in) history
+    stands : AreInOrder IsAnyFile b.archives growth.added (ids_in log_in) history
         (files_by log_in deeds)
     stands = runs_in_order sizes growth.added log_in deeds history goes
 
     -- which are those of a run
-    pub run_changes : (b.archives ≡ false → b.archived ≡ [])
+    run_changes : (b.archives ≡ false → b.archived ≡ [])
         → AreRunChanges b.archives (ids_in log_in) (files_by log_in deeds) growth.added
     run_changes none_archived = only sizes growth.added log_in deeds history goes none_archived
 
@@ -226,7 +235,7 @@ module _ {D : Type 0} (changes : D → Option (List Change)) (b : StoreState D)
     }
 
     -- in the words of a keeper that has logged these entries
-    pub are_true : (file : TableFile) → Contains (files_by log_in deeds) file
+    are_true : (file : TableFile) → Contains (files_by log_in deeds) file
         → IsTrueFor history file
     are_true file listed =
         let p = from_map (file_on b.notes.base) b.files file listed in
@@ -235,3 +244,50 @@ module _ {D : Type 0} (changes : D → Option (List Change)) (b : StoreState D)
         (is_true with_run history sizes.within.greatest_capacity in_log are are_whole put
         (of_same (IsLoggedCell own put) (IsLoggedCell with_run put) put.cells
         (λ pair. (forth put pair, back put p.1 pair)) (settled own has put p.1).merged))
+
+    -- ---- each stands for an entry
+
+    within : (put : PutFile) → HoldsNote own put → HoldsNote with_run put
+    within put holds = record {
+      note = holds.note;
+      among = Contains-append_left b.notes.logged run holds.note holds.among;
+      bit = holds.bit;
+      above = holds.above;
+      up_to = holds.up_to;
+    }
+
+    -- and ends near one
+    ended : 0 < b.notes.synced → EndsThere b.notes.synced entries
+    ended some =
+        let e = notes.ended some in
+        (e.0, Contains-append_left b.notes.logged run e.0 e.1, e.2)
+
+    each_file : (P : TableFile → Type 0)
+        → ((put : PutFile) → Contains b.files put → P (file_on b.notes.base put))
+        → (file : TableFile) → Contains (files_by log_in deeds) file → P file
+    each_file P put file listed =
+        let p = from_map (file_on b.notes.base) b.files file listed in subst P p.2 (put p.0 p.1)
+
+    -- So the changes stand in their turns, where what was done beside the log is good.
+    pub in_turn : (now : Option Files) → AllStand now (files_by log_in deeds)
+        → (b.archives ≡ false → b.archived ≡ []) → AreInSequence b.files
+        → ((put : PutFile) → Contains b.files put → HoldsNote own put)
+        → AreInTurn b.archives b.notes.base now growth.added (ids_in log_in) history
+        (files_by log_in deeds)
+    in_turn now there none_archived sequence holds = record {
+      apart = (lawful b.notes.base sizes.capacity sizes.within.greatest_capacity entries history
+          in_log are).apart;
+      is_appended = brings;
+      order = stands;
+      only = run_changes none_archived;
+      follow = λ table. follow b.notes.base table b.files sequence;
+      are_true = are_true;
+      for_some = each_file (HoldsSome history)
+          (λ put among. holds_some with_run sizes history in_log are put
+          (within put (holds put among)));
+      near = each_file (EndsNear history) (λ put among.
+          let its = within put (holds put among) in
+          near_put b.notes.base sizes entries in_log history are b.notes.sizes.capacity
+          b.notes.synced ended put (settled own has put among).lasting its.note its.among);
+      stand = there;
+    }

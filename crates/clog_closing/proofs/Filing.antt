@@ -44,7 +44,7 @@ use Rattle.clog_applied.specs.Filed.{
 use Rattle.clog_applied.specs.History.{LoggedLine, entry_of, logged_at}
 use Rattle.clog_layout.specs.Logged.{AreNotesOf, IsNoteOf}
 use Rattle.clog_layout.proofs.Lines.{is_position, touches_it}
-use Rattle.clog_closing.specs.Beside.{AreAllFiled, HasFinished}
+use Rattle.clog_closing.specs.Beside.{AreAllFiled, HasFinished, HoldsNote}
 use Rattle.clog_closing.specs.Drained.{HasNoDeeds}
 use Rattle.clog_closing.proofs.Following.{follow}
 use Rattle.clog_closing.proofs.Good.{merged_on}
@@ -67,9 +67,7 @@ pub record AreFilesFor (base : ℕ) (history : List LoggedLine) (options : Apply
   pub none : flushes options ≡ false → files ≡ []
 
 module _ (h : Holding) (sizes : Sizes) (history : List LoggedLine)
-    (in_log : IsHistory sizes.capacity h.logged) (are : AreNotesOf h.base h.logged history)
-    (whole : (n : EntryNote) → Contains h.logged n → IsWhole n) (drain : Bool)
-    (done : HasFinished drain h) where
+    (in_log : IsHistory sizes.capacity h.logged) (are : AreNotesOf h.base h.logged history) where
   abbrev files : List TableFile
   files = map (file_on h.base) h.files
 
@@ -89,9 +87,8 @@ module _ (h : Holding) (sizes : Sizes) (history : List LoggedLine)
       }
 
   -- each file is of a table that a note within it touches
-  holds_some : (put : PutFile) → Contains h.files put → HoldsSome history (file_on h.base put)
-  holds_some put among =
-      let holds = done.good.for_some put among in
+  pub holds_some : (put : PutFile) → HoldsNote h put → HoldsSome history (file_on h.base put)
+  holds_some put holds =
       let w = line_of_note h.base h.logged history are holds.note holds.among in
       record {
         line = w.line;
@@ -120,26 +117,29 @@ module _ (h : Holding) (sizes : Sizes) (history : List LoggedLine)
         inside = inside_of f.file n.note w n.listed n.is f.above f.up_to;
       }
 
-  -- they are true for the history, as of a keeper of these sizes
-  is_true_one : (put : PutFile) → Contains h.files put → IsTrueFor history (file_on h.base put)
-  is_true_one put among =
-      let own : Holding = record h { sizes = sizes } in
-      is_true own history sizes.within.greatest_capacity in_log are whole put
-      (merged_on h own put refl (done.good.merged put among))
+  module _ (whole : (n : EntryNote) → Contains h.logged n → IsWhole n) (drain : Bool)
+      (done : HasFinished drain h) where
+    -- they are true for the history, as of a keeper of these sizes
+    is_true_one : (put : PutFile) → Contains h.files put → IsTrueFor history (file_on h.base put)
+    is_true_one put among =
+        let own : Holding = record h { sizes = sizes } in
+        is_true own history sizes.within.greatest_capacity in_log are whole put
+        (merged_on h own put refl (done.good.merged put among))
 
-  -- what holds of each file that was put holds of each of the run
-  each_file : (P : TableFile → Type 0)
-      → ((put : PutFile) → Contains h.files put → P (file_on h.base put)) → (file : TableFile)
-      → Contains files file → P file
-  each_file P put file listed =
-      let p = from_map (file_on h.base) h.files file listed in subst P p.2 (put p.0 p.1)
+    -- what holds of each file that was put holds of each of the run
+    each_file : (P : TableFile → Type 0)
+        → ((put : PutFile) → Contains h.files put → P (file_on h.base put)) → (file : TableFile)
+        → Contains files file → P file
+    each_file P put file listed =
+        let p = from_map (file_on h.base) h.files file listed in subst P p.2 (put p.0 p.1)
 
-  pub files_for : (options : ApplyOptions) → options.drain ≡ drain
-      → (flushes options ≡ false → HasNoDeeds h) → AreFilesFor h.base history options files
-  files_for options drain_is none = record {
-    follow = λ table. follow h.base table h.files done.good.in_sequence;
-    are_true = each_file (IsTrueFor history) is_true_one;
-    for_some = each_file (HoldsSome history) holds_some;
-    drained = λ all. is_filed (done.filed (sym drain_is ∙ all));
-    none = λ flushless. ap (map (file_on h.base)) (none flushless).no_file;
-  }
+    pub files_for : (options : ApplyOptions) → options.drain ≡ drain
+        → (flushes options ≡ false → HasNoDeeds h) → AreFilesFor h.base history options files
+    files_for options drain_is none = record {
+      follow = λ table. follow h.base table h.files done.good.in_sequence;
+      are_true = each_file (IsTrueFor history) is_true_one;
+      for_some = each_file (HoldsSome history)
+          (λ put among. holds_some put (done.good.for_some put among));
+      drained = λ all. is_filed (done.filed (sym drain_is ∙ all));
+      none = λ flushless. ap (map (file_on h.base)) (none flushless).no_file;
+    }

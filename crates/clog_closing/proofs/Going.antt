@@ -112,7 +112,8 @@ pub gone_on : {D : Type 0} (disk : DiskTells D) (code : D → Gv) (a b c : Store
 gone_on disk code a b c ms r q first next = record {
   begun = λ upper reach begun.
       next.begun upper (λ m none. absurd (nothing_there m none)) (first.begun upper reach begun);
-  names = λ none. next.names (first.names none);
+  good = λ good holds.
+      next.good (first.good good holds) (λ m none. absurd (nothing_there m none));
   keeps = keeps_on (held_in disk code a) (held_in disk code b) (held_in disk code c) first.keeps
       next.keeps;
   ends = next.ends;

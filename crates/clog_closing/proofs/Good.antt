@@ -23,10 +23,14 @@ use Rattle.std.proofs.Common.{
   subst,
   append_assoc,
   append-nil,
+  take,
+  drop,
+  arith,
 }
 use Rattle.std.specs.Prelude.{Contains}
 use Rattle.std.specs.List.{AllPairs}
 use Rattle.std.proofs.lemmas.Bool.{cases_eq, false≢true}
+use Rattle.std.proofs.lemmas.List.{get_or-take, length-take, take-append-drop}
 use Rattle.std.proofs.lemmas.List.Elements.{
   Contains-append_cases,
   Contains-append_left,
@@ -40,6 +44,7 @@ use Rattle.clog_cells.specs.Merge.{IsMergeOf}
 use Rattle.clog_cells.proofs.Merging.{of_same}
 use Rattle.path_core.specs.declared.note.EntryNote.{EntryNote}
 use Rattle.path_core.specs.Keeper.{
+  DropRefused,
   Drops,
   Holding,
   IsFiledIn,
@@ -210,49 +215,76 @@ module _ (before : Holding) (ms : List Memtable) (may : MayFlush before ms)
   pub good_put : (now : Holding) → HasPutFiles before now (files_of ms) → HasGoodDeeds now
   good_put now put = subst HasGoodDeeds (sym put) (good_with now)
 
+-- ---- the first of these files
+
+in_front : (n : ℕ) (ms : List Memtable) (m : Memtable) → Contains (take n ms) m → Contains ms m
+in_front n ms m among =
+    subst (λ (l : List Memtable). Contains l m) (take-append-drop n ms)
+    (Contains-append_left (take n ms) (drop n ms) m among)
+
+front_apart : (n : ℕ) (ms : List Memtable) → AllPairs AreApart ms → AllPairs AreApart (take n ms)
+front_apart n ms apart i j d less inside same =
+    let long = length-take n ms in
+    let table = λ (m : Memtable). m.interval.table.0 in
+    let a = get_or-take n ms i d (omega (arith, less, inside, long)) in
+    let b = get_or-take n ms j d (omega (arith, inside, long)) in
+    apart i j d less (omega (arith, inside, long)) (sym (ap table a) ∙ same ∙ ap table b)
+
+pub good_first : (before now : Holding) (ms : List Memtable) (n : ℕ) → MayFlush before ms
+    → ((m : Memtable) → Contains ms m → HoldsNote before (file_of m)) → HasGoodDeeds before
+    → HasPutFiles before now (files_of (take n ms)) → HasGoodDeeds now
+good_first before now ms n may holds good put =
+    let long = length-take n ms in
+    let few = may.few in
+    good_put before (take n ms) (record {
+      each = λ m among. may.each m (in_front n ms m among);
+      apart = front_apart n ms may.apart;
+      few = omega (arith, long, few);
+    }) (λ m among. holds m (in_front n ms m among)) good now put
+
 -- ---- segments that went
 
-module _ (before now : Holding) (closed count : ℕ) (drops : Drops before now closed count)
-    (good : HasGoodDeeds before) where
+-- these are dropped, and more of them perhaps have archive names
+module _ (before : Holding) (ordinals more : List ℕ)
+    (might : (o : ℕ) → Contains ordinals o → MayDrop before o)
+    (might_too : (o : ℕ) → Contains more o → MayDrop before o)
+    (within : (o : ℕ) → Contains ordinals o → Contains more o) (good : HasGoodDeeds before)
+    (faults : ℕ) (stopped : Bool) where
   abbrev without : Holding
   without = record before {
-    faults = now.faults;
-    dropped = before.dropped ++ drops.ordinals;
-    archived = archived_with before drops.ordinals;
+    faults = faults;
+    stopped = stopped;
+    dropped = before.dropped ++ ordinals;
+    archived = archived_with before more;
   }
 
   may_go : (o : ℕ) → MayDrop before o → MayDrop without o
   may_go o = may_drop_on before without o refl refl (λ f there. there)
 
   -- what was dropped before or now might go before
-  dropped_might : (o : ℕ) → Contains (before.dropped ++ drops.ordinals) o → MayDrop before o
-  dropped_might o among =
-      elim (Contains-append_cases before.dropped drops.ordinals o among) [
-        | inl old ↦ good.droppable o old
-        | inr new ↦ ((drops.exact o).0 new).1
-      ]
+  dropped_might : (o : ℕ) → Contains (before.dropped ++ ordinals) o → MayDrop before o
+  dropped_might o among = elim (Contains-append_cases before.dropped ordinals o among) [
+    | inl old ↦ good.droppable o old
+    | inr new ↦ might o new
+  ]
 
   archived_might : (b : Bool) (o : ℕ)
-      → Contains (if b then before.archived ++ drops.ordinals else before.archived) o
-      → MayDrop before o
-  archived_might true o among =
-      elim (Contains-append_cases before.archived drops.ordinals o among) [
-        | inl old ↦ good.archivable o old
-        | inr new ↦ ((drops.exact o).0 new).1
-      ]
+      → Contains (if b then before.archived ++ more else before.archived) o → MayDrop before o
+  archived_might true o among = elim (Contains-append_cases before.archived more o among) [
+    | inl old ↦ good.archivable o old
+    | inr new ↦ might_too o new
+  ]
   archived_might false o among = good.archivable o among
 
   archived_all : before.opening.archives ≡ true → (o : ℕ)
-      → Contains (before.dropped ++ drops.ordinals) o
-      → Contains (archived_with before drops.ordinals) o
+      → Contains (before.dropped ++ ordinals) o → Contains (archived_with before more) o
   archived_all archives o among =
       subst (λ (b : Bool). Contains
-      (if b then before.archived ++ drops.ordinals else before.archived) o) (sym archives)
-      (elim (Contains-append_cases before.dropped drops.ordinals o among) [
+      (if b then before.archived ++ more else before.archived) o) (sym archives)
+      (elim (Contains-append_cases before.dropped ordinals o among) [
         | inl old ↦
-            Contains-append_left before.archived drops.ordinals o
-            (good.all_archived archives o old)
-        | inr new ↦ Contains-append_right before.archived drops.ordinals o new
+            Contains-append_left before.archived more o (good.all_archived archives o old)
+        | inr new ↦ Contains-append_right before.archived more o (within o new)
       ])
 
   good_without : HasGoodDeeds without
@@ -264,12 +296,45 @@ module _ (before now : Holding) (closed count : ℕ) (drops : Drops before now c
     droppable = λ o among. may_go o (dropped_might o among);
     archivable = λ o among. may_go o (archived_might before.opening.archives o among);
     all_archived = archived_all;
-    none_archived = λ archives.
-        none_with before drops.ordinals archives (good.none_archived archives);
+    none_archived = λ archives. none_with before more archives (good.none_archived archives);
   }
 
+-- also where the next one was refused
+pub good_refused : (before now : Holding) (closed : ℕ) → DropRefused before now closed
+    → HasGoodDeeds before → HasGoodDeeds now
+good_refused before now closed drops good =
+    let Named = λ (named : List ℕ). now ≡ record before {
+      faults = now.faults;
+      stopped = now.stopped;
+      dropped = before.dropped ++ drops.ordinals;
+      archived = named;
+    } in
+    let might = λ (o : ℕ) (new : Contains drops.ordinals o). (drops.due o new).1 in
+    elim drops.named [
+      | inl same ↦ subst HasGoodDeeds (sym (subst Named same drops.holds))
+          (good_without before drops.ordinals drops.ordinals might might (λ o new. new) good
+          now.faults now.stopped)
+      | inr next ↦
+          let more = drops.ordinals ++ next.0 ∷ [] in
+          subst HasGoodDeeds (sym (subst Named next.2 drops.holds))
+          (good_without before drops.ordinals more might
+          (λ o among. elim (Contains-append_cases drops.ordinals (next.0 ∷ []) o among) [
+            | inl old ↦ might o old
+            | inr one ↦ subst (MayDrop before) (only_one next.0 o one) next.1.due.1
+          ])
+          (λ o new. Contains-append_left drops.ordinals (next.0 ∷ []) o new) good now.faults
+          now.stopped)
+    ]
+
+module _ (before now : Holding) (closed count : ℕ) (drops : Drops before now closed count)
+    (good : HasGoodDeeds before) where
+  might_go : (o : ℕ) → Contains drops.ordinals o → MayDrop before o
+  might_go o new = ((drops.exact o).0 new).1
+
   pub good_drop : HasGoodDeeds now
-  good_drop = subst HasGoodDeeds (sym drops.holds) good_without
+  good_drop = subst HasGoodDeeds (sym drops.holds)
+      (good_without before drops.ordinals drops.ordinals might_go might_go (λ o new. new) good
+      now.faults before.stopped)
 
   -- and none is left below those that are closed
   pub none_left : (o : ℕ) → o < closed → MayDrop now o → Contains now.dropped o

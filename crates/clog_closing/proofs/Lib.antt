@@ -19,6 +19,7 @@ pub mod Logs
 pub mod MayFlush
 pub mod NextNames
 pub mod Openings
+pub mod PutFiles
 pub mod Reaches
 mod RoomFor
 pub mod Segments

@@ -12,6 +12,7 @@ use Rattle.clog_words.specs.declared.request.ApplyOptions.{ApplyOptions}
 use Rattle.path_core.specs.declared.note.EntryNote.{EntryNote}
 use Rattle.path_core.specs.History.{IsHistory}
 use Rattle.path_core.specs.Keeper.{Holding, PutFile}
+use Rattle.path_core.specs.Keys.{after}
 use Rattle.clog_segments.specs.NoteLog.{EndsThere}
 use Rattle.clog_segments.specs.OnDisk.{file_on}
 use Rattle.clog_store.proofs.FolderEnds.{after_at_most, after_first}
@@ -32,6 +33,37 @@ use Rattle.clog_closing.proofs.Tables.{line_of_note, note_of_line}
 abbrev pub PassesNone : List EntryNote → Type 0
 PassesNone notes = (n : EntryNote) → Contains notes n → (o : ℕ) → o ≤ ordinal_of n.start.0
     → (m : EntryNote) × Contains notes m × (ordinal_of m.start.0 ≡ o)
+
+-- ---- where table files end
+
+module _ (base : ℕ) (sizes : Sizes) (laid : List EntryNote)
+    (in_log : IsHistory sizes.capacity laid) (its : List LoggedLine)
+    (said : AreNotesOf base laid its) where
+  -- the file ends at most one segment behind that of this note
+  near_one : (put : PutFile) → (n : EntryNote) → Contains laid n
+      → ordinal_of put.upper ≤ ordinal_of n.start.0 + 1 → EndsNear its (file_on base put)
+  near_one put n among near =
+      let w = line_of_note base laid its said n among in
+      let id = w.is.id in
+      record { line = w.line; listed = w.listed; near = omega (arith, id, near) }
+
+  -- which is the last one, or, where nothing was synced, any
+  pub near_put : (capacity synced : ℕ) → (0 < synced → EndsThere synced laid) → (put : PutFile)
+      → put.upper ≤ after capacity synced → (n : EntryNote) → Contains laid n
+      → EndsNear its (file_on base put)
+  near_put capacity synced ended put low n among = elim (cases_lt 0 synced) [
+    | inl some ↦
+        let e = ended some in
+        let top = after_at_most capacity synced in
+        let inside = in_log.each e.0 e.1 in
+        let few = sizes.within.greatest_capacity in
+        near_one put e.0 e.1 (omega (arith, low, top, e.2, inside.inside, inside.long, few))
+    | inr none ↦
+        let first = after_first capacity synced (omega (arith, none)) in
+        near_one put n among (omega (arith, low, first))
+  ]
+
+-- ---- a run
 
 module _ (sizes : Sizes) (h : Holding) (none_passed : PassesNone h.logged)
     (in_log : IsHistory sizes.capacity h.logged) (its : List LoggedLine)
@@ -84,36 +116,16 @@ module _ (sizes : Sizes) (h : Holding) (none_passed : PassesNone h.logged)
     abbrev files : List TableFile
     files = map (file_on base) h.files
 
-    -- the file ends at most one segment behind that of this note
-    near_one : (put : PutFile) → (n : EntryNote) → Contains laid n
-        → ordinal_of put.upper ≤ ordinal_of n.start.0 + 1 → EndsNear its (file_on base put)
-    near_one put n among near =
-        let w = line_of_note base laid its said n among in
-        let id = w.is.id in
-        record { line = w.line; listed = w.listed; near = omega (arith, id, near) }
-
-    -- which is the last one, or, where nothing was synced, the one for which it stands
-    near_put : (put : PutFile) → Contains h.files put → EndsNear its (file_on base put)
-    near_put put among =
-        let low = good.lasting put among in
-        elim (cases_lt 0 h.synced) [
-          | inl some ↦
-              let e = ended some in
-              let top = after_at_most h.sizes.capacity h.synced in
-              let inside = in_log.each e.0 e.1 in
-              let few = sizes.within.greatest_capacity in
-              near_one put e.0 e.1
-              (omega (arith, low, top, e.2, inside.inside, inside.long, few))
-          | inr none ↦
-              let holds = good.for_some put among in
-              let first = after_first h.sizes.capacity h.synced (omega (arith, none)) in
-              near_one put holds.note holds.among (omega (arith, low, first))
-        ]
+    near_it : (put : PutFile) → Contains h.files put → EndsNear its (file_on base put)
+    near_it put among =
+        let holds = good.for_some put among in
+        near_put base sizes laid in_log its said h.sizes.capacity h.synced ended put
+        (good.lasting put among) holds.note holds.among
 
     near : (file : TableFile) → Contains files file → EndsNear its file
     near file listed =
         let p = from_map (file_on base) h.files file listed in
-        subst (EndsNear its) p.2 (near_put p.0 p.1)
+        subst (EndsNear its) p.2 (near_it p.0 p.1)
 
     -- where each file that was put has the whole log
     module _ (begun : HasBegun h (synced_to laid)) where

@@ -1,23 +1,65 @@
 -- The worked rows of what comes while writers flush: a line is appended, its table file comes, and
 -- its segment goes; and lists of changes that are in no such order.
-use Rattle.std.proofs.Common.{◌≡◌, ℕ, zero, suc, ◌<◌, Bool, false, inl, List, [], ◌∷◌, length, refl, sym, ap, subst, arith}
-use Rattle.std.specs.Prelude.{Contains}
+use Rattle.std.proofs.Common.{
+  ◌≡◌,
+  ◌++◌,
+  ℕ,
+  zero,
+  suc,
+  ◌<◌,
+  Bool,
+  false,
+  inl,
+  inr,
+  List,
+  [],
+  ◌∷◌,
+  Option,
+  Some,
+  length,
+  refl,
+  sym,
+  ◌∙◌,
+  ap,
+  subst,
+  arith,
+}
+use Rattle.std.specs.Prelude.{Contains, unwrap_or}
+use Rattle.std.specs.FinMap.{get-empty}
+use Rattle.std.specs.Cmp.Lexicographic.{slice_cmp}
 use Rattle.std.specs.List.{filter}
+use Rattle.std.specs.List.Sorted.{IsStrictlySortedBy}
+use Rattle.std.specs.Ordering.{nat_cmp}
 use Rattle.std.proofs.lemmas.Bool.{eq-eqb}
 use Rattle.std.proofs.lemmas.List.{length-append}
-use Rattle.clog_base.proofs.Members.{here, in_map, only_one}
+use Rattle.std.proofs.lemmas.List.Elements.{Contains-append_left}
+use Rattle.clog_spec.specs.Names.{table_name_of}
+use Rattle.clog_base.specs.declared.cell.Table.{Table}
+use Rattle.clog_base.specs.declared.position.Position.{Position}
+use Rattle.clog_base.specs.Positions.{IsUpTo}
+use Rattle.clog_base.proofs.Members.{from_map, further, here, in_map, nothing_there, only_one}
+use Rattle.clog_base.proofs.NameLaws.{one_table}
 use Rattle.clog_disk.specs.declared.change.Change.{Change}
 use Rattle.clog_disk.specs.declared.change.Change.TheVariants as change
+use Rattle.clog_disk.specs.Files.{Files, bytes_at, no_files}
 use Rattle.clog_mutation.specs.declared.mutation.Mutation.{Mutation}
+use Rattle.clog_mutation.specs.Payload.{cells_of, payload_of}
 use Rattle.clog_scan.specs.Segment.{Entry}
+use Rattle.clog_table.specs.declared.table_file.TableFile.{TableFile}
 use Rattle.clog_table.specs.Format.{table_file_bytes}
+use Rattle.clog_table.specs.Refusals.{IsFileOf}
+use Rattle.clog_table.proofs.Again.{one_table_file}
 use Rattle.clog_crash.specs.Droppable.{Touches}
 use Rattle.clog_crash.specs.Grown.{appends_of}
-use Rattle.clog_crash.specs.Worked.{first_table, the_segment}
+use Rattle.clog_crash.specs.Readings.{IsTableIn}
+use Rattle.clog_crash.specs.Worked.{first_table, logged, the_mutation, the_segment}
 use Rattle.clog_crash.proofs.worked.Files.{held, is_segment_file}
-use Rattle.clog_applied.specs.Appended.{IsAppended, entries_in}
-use Rattle.clog_applied.specs.Filed.{IsTrueFor}
+use Rattle.clog_applied.specs.Appended.{IsAppended, entries_in, is_in}
+use Rattle.clog_applied.specs.Early.{AreRunChanges}
+use Rattle.clog_applied.specs.Filed.{FollowFrom, HoldsSome, IsTrueFor, first_of}
 use Rattle.clog_applied.specs.History.{
+  IsBefore,
+  Line,
   LoggedLine,
   entry_of,
   is_by,
@@ -25,6 +67,7 @@ use Rattle.clog_applied.specs.History.{
   share_of,
   written_by,
 }
+use Rattle.clog_applied.specs.Onward.{EndsNear}
 use Rattle.clog_applied.specs.Worked.{
   come_early,
   comes,
@@ -37,39 +80,72 @@ use Rattle.clog_applied.specs.Worked.{
   gone_early,
   line_at,
   log_name,
+  one_line,
   one_logged,
   the_end,
-  two_lines,
+  with_file,
 }
-use Rattle.clog_applied.proofs.Lists.{in_filter}
+use Rattle.clog_applied.proofs.Lists.{from_filter, in_filter}
 use Rattle.clog_applied.proofs.Merged.{of_entry}
-use Rattle.clog_applied.proofs.rows.Drained.{is_named_so, is_true, spelled_to, store_went}
-use Rattle.clog_applied.proofs.rows.Empty.{all_of_one}
+use Rattle.clog_applied.proofs.rows.Drained.{
+  inside,
+  is_named_so,
+  is_true,
+  of_each,
+  spelled,
+  spelled_to,
+  store_went,
+}
+use Rattle.clog_applied.proofs.rows.Empty.{all_of_one, one_apart}
 use Rattle.clog_applied.proofs.rows.Synced.{touches_first}
-use Rattle.clog_applied.proofs.rows.Wrong.{the_one_is}
+use Rattle.clog_applied.proofs.rows.Wrong.{is_the_one, the_one_is}
 use Rattle.clog_applied.proofs.rows.WrongLines.{entries_are}
+use Rattle.clog_closing.specs.WorkedComing.{for_nothing, hollow, hollow_changes}
 use Rattle.clog_closing.specs.Written.{AreFirstLines, HasComeInOrder}
 
 -- ---- of two lines the first has come
 
-its_share : (writer : ℕ) → writer < 1
-    → AreFirstLines (share_of 1 writer two_lines) (written_by writer one_logged)
-its_share zero low = record { rest = line_of (line_at 2 60) ∷ []; parts = refl }
-its_share (suc writer) low = absurd (omega (arith, low))
+abbrev f : TableFile
+f = file_to the_end
 
-pub come_first : HasComeInOrder false 1 two_lines drained_changes
-come_first = record {
+its_share : (other : Mutation) (writer : ℕ) → writer < 1 → AreFirstLines
+    (share_of 1 writer (the_mutation ∷ other ∷ [])) (written_by writer one_logged)
+its_share other zero low =
+    record { rest = record { number = 2; mutation = other } ∷ []; parts = refl }
+its_share other (suc writer) low = absurd (omega (arith, low))
+
+pub come_first : (other : Mutation)
+    → HasComeInOrder false 1000 1 (the_mutation ∷ other ∷ []) (Some with_file) drained_changes
+come_first other = record {
   ids = 1000 ∷ [];
   history = one_logged;
-  files = file_to the_end ∷ [];
+  files = f ∷ [];
+  turns = record {
+    apart = one_apart IsBefore (line_at 1 28);
+    is_appended = store_went.is_appended;
+    order = store_went.order;
+    only = store_went.only;
+    follow = of_each (FollowFrom (first_of 1000)) (refl, inr (refl, omega arith), tt) tt;
+    are_true = all_of_one (IsTrueFor one_logged) f is_true;
+    for_some = all_of_one (HoldsSome one_logged) f (record {
+      line = line_at 1 28;
+      listed = here (line_at 1 28) [];
+      touches = touches_first 1 28;
+      inside = inside 60 (omega arith) (omega arith);
+    });
+    near = all_of_one (EndsNear one_logged) f (record {
+      line = line_at 1 28;
+      listed = here (line_at 1 28) [];
+      near = omega arith;
+    });
+    stand = λ after is file h.
+        let same : with_file ≡ after = cc in
+        subst (λ (fs : Files). IsTableIn (bytes_at fs) file) same (store_went.put file h);
+  };
   holds = record {
     known = all_of_one (λ (w : LoggedLine). w.writer < 1) (line_at 1 28) (omega arith);
-    firsts = its_share;
+    firsts = its_share other;
   };
-  is_appended = store_went.is_appended;
-  order = store_went.order;
-  only = store_went.only;
-  are_true = all_of_one (IsTrueFor one_logged) (file_to the_end) is_true;
 }
 
 -- ---- what is in no such order
@@ -94,14 +170,14 @@ only_entry changes alone ids history is e among =
     (entries_are changes the_segment alone is_segment_file (the_entry ∷ []) held ids history is)
     among)
 
-module _ (archives : Bool) (writers : ℕ) (ms : List Mutation) where
-  pub not_gone_early : HasComeInOrder archives writers ms gone_early → ⊥
+module _ (archives : Bool) (base writers : ℕ) (ms : List Mutation) (now : Option Files) where
+  pub not_gone_early : HasComeInOrder archives base writers ms now gone_early → ⊥
   not_gone_early has =
-      let its = the_one_is the_segment gone_early refl has.ids has.history has.is_appended in
-      let may = has.order.removed_filed (goes_in ∷ []) (comes (file_to the_end) ∷ []) 1000 its refl
+      let its = the_one_is the_segment gone_early refl has.ids has.history has.turns.is_appended in
+      let may = has.turns.order.removed_filed (goes_in ∷ []) (comes (file_to the_end) ∷ []) 1000 its refl
       in
       let d = may.droppable in
-      let one = only_entry gone_early refl has.ids has.history has.is_appended d.entry d.has_entry
+      let one = only_entry gone_early refl has.ids has.history has.turns.is_appended d.entry d.has_entry
       in
       let touches = subst (λ (e : Entry). Touches e first_table) one (touches_first 1 28) in
       let filed = d.filed first_table d.entry d.entry d.has_entry d.has_entry touches touches
@@ -111,13 +187,13 @@ module _ (archives : Bool) (writers : ℕ) (ms : List Mutation) where
       only_one goes_in (change.Publish put.name put.bytes) put.listed in
       cc
 
-  pub not_come_early : HasComeInOrder archives writers ms come_early → ⊥
+  pub not_come_early : HasComeInOrder archives base writers ms now come_early → ⊥
   not_come_early has =
       let e = of_entry has.history 1000 the_entry
-      (its_entry come_early refl has.ids has.history has.is_appended) in
+      (its_entry come_early refl has.ids has.history has.turns.is_appended) in
       let touches = subst (λ (x : Entry). Touches x first_table) (sym e.is) (touches_first 1 28) in
       let there = e.there in
-      let behind = has.order.published [] (goes_in ∷ goes_out ∷ []) file_name
+      let behind = has.turns.order.published [] (goes_in ∷ goes_out ∷ []) file_name
       (table_file_bytes (file_to far_end)) (file_to far_end) refl (record {
         sequence = 1;
         named = is_named_so;
@@ -127,11 +203,11 @@ module _ (archives : Bool) (writers : ℕ) (ms : List Mutation) where
       omega (arith, behind, end)
 
 -- a line that was not asked for
-pub not_unasked : (archives : Bool) (writers : ℕ)
-    → HasComeInOrder archives writers [] drained_changes → ⊥
-not_unasked archives writers has =
+pub not_unasked : (archives : Bool) (base writers : ℕ) (now : Option Files)
+    → HasComeInOrder archives base writers [] now drained_changes → ⊥
+not_unasked archives base writers now has =
     let e = of_entry has.history 1000 the_entry
-    (its_entry drained_changes refl has.ids has.history has.is_appended) in
+    (its_entry drained_changes refl has.ids has.history has.turns.is_appended) in
     let w = e.line in
     let first = has.holds.firsts w.writer (has.holds.known w e.listed) in
     let said = written_by w.writer has.history in
@@ -142,3 +218,144 @@ not_unasked archives writers has =
     (in_filter (is_by w.writer) has.history w e.listed (eq-eqb w.writer w.writer refl)) in
     let inside = among.1 in
     omega (arith, long, parts, inside)
+
+-- ---- not the second before the first
+
+-- what begins with a line has it, where it is something
+begins_with : (l : Line) (all said rest : List Line) → (x : Line) → Contains said x
+    → l ∷ all ≡ said ++ rest → Contains said l
+begins_with l all [] rest x among is = absurd (nothing_there x among)
+begins_with l all (y ∷ said) rest x among is =
+    let same : y ≡ l = cc in subst (Contains (y ∷ said)) same (here y said)
+
+pub not_second : (archives : Bool) (base : ℕ) (other : Mutation) (now : Option Files)
+    → (payload_of other ≡ payload_of the_mutation → ⊥)
+    → HasComeInOrder archives base 1 (other ∷ the_mutation ∷ []) now drained_changes → ⊥
+not_second archives base other now apart has =
+    let history = has.history in
+    let is = has.turns.is_appended in
+    let e = of_entry history 1000 the_entry (its_entry drained_changes refl has.ids history is) in
+    let low = has.holds.known e.line e.listed in
+    let first = has.holds.firsts 0 (omega arith) in
+    let line : Line = record { number = 1; mutation = other } in
+    let said = begins_with line (record { number = 2; mutation = the_mutation } ∷ [])
+    (written_by 0 history) first.rest (line_of e.line)
+    (in_map line_of (filter (is_by 0) history) e.line
+    (in_filter (is_by 0) history e.line e.listed (eq-eqb e.line.writer 0 (omega (arith, low)))))
+    first.parts in
+    let v = from_map line_of (filter (is_by 0) history) line said in
+    let listed = (from_filter (is_by 0) history v.0 v.1).0 in
+    let there = is_the_one the_segment drained_changes refl has.ids history is v.0.id
+    (is.no_other v.0 listed) in
+    let one = only_entry drained_changes refl has.ids history is (entry_of v.0)
+    (in_map entry_of (filter (is_in 1000) history) v.0
+    (in_filter (is_in 1000) history v.0 listed (eq-eqb v.0.id 1000 there))) in
+    apart (sym (ap (λ (l : Line). payload_of l.mutation) v.2)
+    ∙ sym (ap (λ (x : Entry). x.payload) one))
+
+-- ---- files that are wrong
+
+none_ordered : IsFileOf first_table (table_file_bytes hollow) hollow
+unfolding IsStrictlySortedBy
+none_ordered = record {
+  is_file = record {
+    table = omega arith;
+    lower = record { id = omega arith; offset = omega arith };
+    upper = record { id = omega arith; offset = omega arith };
+    interval = inr (refl, omega arith);
+    stored = tt;
+    map = record { ordered = tt; few = omega arith };
+  };
+  same_table = refl;
+  spelled = refl;
+}
+
+nothing_spelled : IsFileOf first_table (table_file_bytes for_nothing) for_nothing
+unfolding IsStrictlySortedBy
+nothing_spelled = record {
+  is_file = record {
+    table = omega arith;
+    lower = record { id = omega arith; offset = omega arith };
+    upper = record { id = omega arith; offset = omega arith };
+    interval = inr (refl, omega arith);
+    stored = tt;
+    map = record { ordered = tt; few = omega arith };
+  };
+  same_table = refl;
+  spelled = refl;
+}
+
+-- a file that came is one of those that are told
+is_told : (archives : Bool) (ids : List ℕ) (files : List TableFile) (changes : List Change)
+    (file : TableFile) → AreRunChanges archives ids files changes
+    → Contains changes (comes file) → IsFileOf first_table (table_file_bytes file) file
+    → Contains files file
+is_told archives ids files changes file only listed own =
+    let p = only (comes file) listed in
+    let numbers = one_table file_name p.0.table.0 p.2.sequence 0 1 p.2.named is_named_so in
+    let table : p.0.table ≡ first_table = (λ i. record { 0 = numbers.0 i }) in
+    let bytes = table_file_bytes file in
+    let same = one_table_file first_table bytes file p.0 own
+    (subst (λ (t : Table). IsFileOf t bytes p.0) table p.2.spelled) in
+    subst (Contains files) same p.1
+
+module _ (archives : Bool) (base writers : ℕ) (ms : List Mutation) (changes : List Change) where
+  -- in whose interval there is nothing
+  pub not_for_nothing : (now : Option Files) → Contains changes (comes for_nothing)
+      → HasComeInOrder archives base writers ms now changes → ⊥
+  not_for_nothing now listed has =
+      let some = has.turns.for_some for_nothing
+      (is_told archives has.ids has.files changes for_nothing has.turns.only listed
+      nothing_spelled) in
+      elim some.inside.above [
+        | inl low ↦ elim some.inside.up_to [
+          | inl high ↦ omega (arith, low, high)
+          | inr high ↦ omega (arith, low, high.0)
+        ]
+        | inr low ↦ elim some.inside.up_to [
+          | inl high ↦ omega (arith, low.0, high)
+          | inr high ↦ omega (arith, low.1, high.1)
+        ]
+      ]
+
+  -- which does not stand at the end
+  pub not_missing : Contains changes (comes f)
+      → HasComeInOrder archives base writers ms (Some no_files) changes → ⊥
+  not_missing listed has =
+      let there = has.turns.stand no_files refl f
+      (is_told archives has.ids has.files changes f has.turns.only listed spelled) in
+      let none = ap (λ (o : Option (List ℕ)). unwrap_or o []) (get-empty (slice_cmp nat_cmp)
+      (table_name_of 0 there.sequence)) in
+      let clash : [] ≡ table_file_bytes f = sym none ∙ there.spelled.spelled in cc
+
+-- which lacks a cell
+pub not_hollow : (archives : Bool) (base : ℕ) (now : Option Files)
+    → HasComeInOrder archives base 1 one_line now hollow_changes → ⊥
+not_hollow archives base now has =
+    let history = has.history in
+    let e = of_entry history 1000 the_entry
+    (its_entry hollow_changes refl has.ids history has.turns.is_appended) in
+    let low = has.holds.known e.line e.listed in
+    let first = has.holds.firsts 0 (omega arith) in
+    let said = written_by 0 history in
+    let among = Contains-append_left said first.rest (line_of e.line)
+    (in_map line_of (filter (is_by 0) history) e.line
+    (in_filter (is_by 0) history e.line e.listed (eq-eqb e.line.writer 0 (omega (arith, low))))) in
+    let line = only_one (record { number = 1; mutation = the_mutation }) (line_of e.line)
+    (subst (λ (l : List Line). Contains l (line_of e.line)) (sym first.parts) among) in
+    let file = is_told archives has.ids has.files hollow_changes hollow has.turns.only
+    (further goes_in (comes hollow ∷ goes_out ∷ []) (comes hollow)
+    (here (comes hollow) (goes_out ∷ []))) none_ordered in
+    let there = e.there in
+    let end : e.line.end ≡ 60 = ap (λ (x : Entry). x.end) e.is in
+    (has.turns.are_true hollow file).newest logged.0 logged.1 (record {
+      line = e.line;
+      listed = e.listed;
+      inside = record {
+        above = inr (omega (arith, there), omega (arith, end));
+        up_to = inr (omega (arith, there), omega (arith, end));
+      };
+      cell = subst (λ (m : Mutation). Contains (cells_of m) logged)
+          (ap (λ (l : Line). l.mutation) line) (here logged []);
+      same_table = refl;
+    })

@@ -5,10 +5,10 @@ use Rattle.clog_disk.specs.declared.disk.Disk.{Ghosts as DiskTells}
 use Rattle.path_core.specs.declared.keeper.KeeperFault.{KeeperFault}
 use Rattle.path_core.specs.Keeper.{Holding, PutFile, TellsCounts, is_stopped}
 use Rattle.clog_memtable.specs.declared.flushing.Memtable.{Memtable}
-use Rattle.clog_memtable.specs.Flushing.{files_of}
+use Rattle.clog_memtable.specs.Flushing.{file_of, files_of}
 use Rattle.clog_segments.specs.Life.{Lives, LivesOn, State}
 use Rattle.clog_segments.specs.StoreState.{StoreState, holding_of}
-use Rattle.clog_closing.specs.Beside.{HasFinished}
+use Rattle.clog_closing.specs.Beside.{HasFinished, HasGoodDeeds, HoldsNote}
 
 -- A call, or several, of a keeper that had not stopped ends so: it has stopped where that is
 -- answered, and then its disk's counts are told.
@@ -28,10 +28,6 @@ KeepsLog before now =
       archived = now.archived;
     }
 
--- Where the keeper does not archive no segment has an archive name.
-abbrev pub GivesNoName : Holding → Type 0
-GivesNoName h = h.opening.archives ≡ false → h.archived ≡ []
-
 -- It has put no file, and dropped and archived no segment.
 pub record HasNoDeeds (h : Holding) : Type 0 where
   pub no_file : h.files ≡ []
@@ -48,7 +44,7 @@ pub record Drains (before now : Holding) (memtables : List Memtable) : Type 0 wh
 -- key in its interval, and where the keeper does not archive no segment has an archive name.
 pub record HasBegun (h : Holding) (upper : ℕ) : Type 0 where
   pub wide : (put : PutFile) → Contains h.files put → (put.lower ≡ 0) × (put.upper ≡ upper)
-  pub none_archived : GivesNoName h
+  pub none_archived : h.opening.archives ≡ false → h.archived ≡ []
 
 -- each of these memtables has the whole log up to a key
 abbrev pub ReachTo : ℕ → List Memtable → Type 0
@@ -68,14 +64,15 @@ StaysAlive disk before now =
     → LivesOn disk.files disk.moment disk.since disk.leaves disk.read_at disk.lasted_at before now
 
 -- What a step of a drain makes of a store that runs, whatever it answers: with files for these
--- memtables, or for the first of them, a drain up to a key is one up to that key still; no segment
--- gets an archive name where the store does not archive; the log is as it was and lives on; and the
--- step ends as it answers.
+-- memtables, or for the first of them, a drain up to a key is one up to that key still; what was good
+-- that the store had done beside its log is so still, where each memtable's file holds an entry; the
+-- log is as it was and lives on; and the step ends as it answers.
 pub record HasGoneOn {D : Type 0} (disk : DiskTells D) (code : D → Gv) (before now : StoreState D)
     (memtables : List Memtable) (result : Result (Unit {0}) KeeperFault) : Type 0 where
   pub begun : (upper : ℕ) → ReachTo upper memtables → HasBegun (held_in disk code before) upper
       → HasBegun (held_in disk code now) upper
-  pub names : GivesNoName (held_in disk code before) → GivesNoName (held_in disk code now)
+  pub good : HasGoodDeeds (held_in disk code before) → ((m : Memtable) → Contains memtables m
+      → HoldsNote (held_in disk code before) (file_of m)) → HasGoodDeeds (held_in disk code now)
   pub keeps : KeepsLog (held_in disk code before) (held_in disk code now)
   pub ends : EndsAs (held_in disk code now) result
   pub first : now.first ≡ before.first

@@ -6,5 +6,6 @@ pub mod NextNames
 pub mod Sequence
 pub mod Stores
 pub mod Worked
+pub mod WorkedComing
 pub mod WorkedDeeds
 pub mod Written

@@ -1,12 +1,43 @@
 //! Worked rows: which appends bring the segments of a log; what a keeper may have done beside its
 //! log, and has to have done at the end of a run; and in which order writers that flush change a
 //! disk.
-ghost use Rattle.std.specs.Prelude.{◌≡◌, ◌≤◌, ◌∷◌, ℕ, Bool, List, [], false, true};
+ghost use Rattle.std.specs.Prelude.{
+  ◌≡◌,
+  ◌≤◌,
+  ◌∷◌,
+  ℕ,
+  Bool,
+  Contains,
+  List,
+  Option,
+  Some,
+  [],
+  false,
+  true,
+};
+ghost use Rattle.clog_disk.specs.declared.change.Change.{Change};
+ghost use Rattle.clog_disk.specs.Files.{Files, no_files};
 ghost use Rattle.clog_mutation.specs.declared.mutation.Mutation.{Mutation};
+ghost use Rattle.clog_mutation.specs.Payload.{payload_of};
 ghost use Rattle.clog_scan.specs.Cut.{Section};
-ghost use Rattle.clog_applied.specs.Worked.{come_early, drained_changes, gone_early, two_lines};
+ghost use Rattle.clog_crash.specs.Worked.{the_mutation};
+ghost use Rattle.clog_applied.specs.Worked.{
+  come_early,
+  comes,
+  drained_changes,
+  file_to as file_up_to,
+  gone_early,
+  one_line,
+  the_end,
+  with_file,
+};
 ghost use Rattle.clog_closing.specs.Beside.{HasFinished, HasGoodDeeds};
 ghost use Rattle.clog_closing.specs.Worked.{both_whole, first_torn, second_torn, two_segments};
+ghost use Rattle.clog_closing.specs.WorkedComing.{
+  for_nothing,
+  hollow_changes,
+  overwritten_changes,
+};
 ghost use Rattle.clog_closing.specs.WorkedDeeds.{
   Setting,
   file_between,
@@ -68,14 +99,38 @@ pub fn a_drain_leaves_no_entry()
 {}
 
 /// Of two lines of one writer the first was appended; then a table file came that holds it, and its
-/// segment went: so far writers that flush may have come. The segment may not go before the file has
-/// come, nor the file come before the entry, nor a line be appended that was not asked for.
+/// segment went: so far writers that flush may have come, where the file stands there. It may not be
+/// missing then. The segment may not go before the file has come, nor the file come before the entry;
+/// nor may the second line be appended before the first, or one that was not asked for.
 pub fn a_table_file_comes_behind_its_entries()
-    ensures first { HasComeInOrder false 1 two_lines drained_changes }
-    ensures gone_early { (archives : Bool) (writers : ℕ) (mutations : List Mutation)
-        → HasComeInOrder archives writers mutations gone_early → ⊥ }
-    ensures come_early { (archives : Bool) (writers : ℕ) (mutations : List Mutation)
-        → HasComeInOrder archives writers mutations come_early → ⊥ }
-    ensures unasked { (archives : Bool) (writers : ℕ)
-        → HasComeInOrder archives writers [] drained_changes → ⊥ }
+    ensures first { (other : Mutation)
+        → HasComeInOrder false 1000 1 (the_mutation ∷ other ∷ []) (Some with_file)
+        drained_changes }
+    ensures second { (archives : Bool) (base : ℕ) (other : Mutation) (now : Option Files)
+        → (payload_of other ≡ payload_of the_mutation → ⊥)
+        → HasComeInOrder archives base 1 (other ∷ the_mutation ∷ []) now drained_changes → ⊥ }
+    ensures gone_early { (archives : Bool) (base writers : ℕ) (mutations : List Mutation)
+        (now : Option Files)
+        → HasComeInOrder archives base writers mutations now gone_early → ⊥ }
+    ensures come_early { (archives : Bool) (base writers : ℕ) (mutations : List Mutation)
+        (now : Option Files)
+        → HasComeInOrder archives base writers mutations now come_early → ⊥ }
+    ensures unasked { (archives : Bool) (base writers : ℕ) (now : Option Files)
+        → HasComeInOrder archives base writers [] now drained_changes → ⊥ }
+    ensures missing { (archives : Bool) (base writers : ℕ) (mutations : List Mutation)
+        (changes : List Change) → Contains changes (comes (file_up_to the_end))
+        → HasComeInOrder archives base writers mutations (Some no_files) changes → ⊥ }
+{}
+
+/// No table file comes that has no entry in its interval, alone or over one that holds an entry; and
+/// none that lacks a cell of an entry there.
+pub fn table_files_of_a_run_stand_for_something()
+    ensures nothing { (archives : Bool) (base writers : ℕ) (mutations : List Mutation)
+        (now : Option Files) (changes : List Change) → Contains changes (comes for_nothing)
+        → HasComeInOrder archives base writers mutations now changes → ⊥ }
+    ensures over { (archives : Bool) (base writers : ℕ) (mutations : List Mutation)
+        (now : Option Files)
+        → HasComeInOrder archives base writers mutations now overwritten_changes → ⊥ }
+    ensures hollow { (archives : Bool) (base : ℕ) (now : Option Files)
+        → HasComeInOrder archives base 1 one_line now hollow_changes → ⊥ }
 {}

@@ -82,16 +82,17 @@ module _ {D : Type 0} (changes : D → Option (List Change)) (moment : D → ℕ
       goes_on_by moment since start looked now kept then opening
 
   -- and while lines are written
-  pub while_written : (start opened now : D) (first then : Files) (base : ℕ)
+  pub while_written : (files : D → Option Files) (start opened now : D) (first then : Files)
+      (base : ℕ)
       (flushing archives drain : Bool) (writers : ℕ) (ms : List Mutation) (least : ℕ)
       → KeepsFolder first then
       → LeavesOnly moment since start opened (KeepsFolder first)
-      → (lines : LeavesShares changes moment since leaves opened now (bytes_at then) base flushing
-      archives drain writers ms least)
+      → (lines : LeavesShares files changes moment since leaves opened now (bytes_at then) base
+      flushing archives drain writers ms least)
       → (image : Files) → since now (moment start) image → NoChances lines.log image
       → AddsFirst first (said_by lines.history) 0 image
-  while_written start opened now first then base flushing archives drain writers ms least kept
-      opening lines =
+  while_written files start opened now first then base flushing archives drain writers ms least
+      kept opening lines =
       let said = said_by lines.history in
       let has = λ (image : Files). NoChances lines.log image → AddsFirst first said 0 image in
       let before = weakened moment since start opened (KeepsFolder first) has opening

@@ -17,7 +17,7 @@ use Rattle.std.proofs.Common.{
   ◌∙◌,
   arith,
 }
-use Rattle.std.specs.Prelude.{IfSome, ◌⊎◌}
+use Rattle.std.specs.Prelude.{IfSome, is_some, ◌⊎◌}
 use Rattle.std.specs.FinMap as finmap
 use Rattle.clog_io.specs.declared.clock.Clock.{Ghosts as ClockTells}
 use Rattle.clog_disk.specs.declared.change.Change.{Change}
@@ -31,6 +31,7 @@ use Rattle.clog_words.specs.declared.request.ApplyOptions.{ApplyOptions}
 use Rattle.clog_applied.specs.Filed.{BringsNoOther, KeepsOthers}
 use Rattle.clog_applied.specs.History.{LoggedLine}
 use Rattle.clog_closing.specs.Logs.{id_of}
+use Rattle.clog_closing.specs.Written.{AreMadeFor}
 use Rattle.clog_segments.specs.Opened.{RecoversAll}
 use Rattle.clog_writers.specs.Left.{SaysShares}
 use Rattle.clog_engine.specs.Logged.{
@@ -83,7 +84,10 @@ module _ (o n : Outside) (on : IsOnward o n) (options : ApplyOptions) (ms : List
         (sym on.changes) w.recovered;
     added = w.added;
     changes_are = on.changes_now ∙ w.changes_are;
-    made_for = w.made_for;
+    base = w.base;
+    base_new = w.base_new;
+    made_for = subst (λ (f : Option Files). AreMadeFor (is_some options.flush_at) options.archive
+        options.drain w.base options.writers ms f w.added) (sym on.files_now) w.made_for;
     brought = w.brought;
     rise = w.rise;
     new = w.new;

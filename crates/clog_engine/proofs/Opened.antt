@@ -221,8 +221,8 @@ module _ {D C : Type 0} (disk : DiskTells D) (clock : ClockTells C)
     -- what was appended behind the recovery
     written : (now : D) (options : ApplyOptions) (ms : List Mutation) (first : Files)
         → disk.files looked ≡ Some first → (log : List Write)
-        → HasBrought disk.changes opened now base (is_some options.flush_at) options.archive
-        options.drain options.writers ms log
+        → HasBrought disk.files disk.changes opened now base (is_some options.flush_at)
+        options.archive options.drain options.writers ms log
         → HasWrittenLog (outside_at now) options first ms log
     written now options ms first is log has = record {
       between = disk.changes opened;
@@ -230,6 +230,9 @@ module _ {D C : Type 0} (disk : DiskTells D) (clock : ClockTells C)
           still.changes_are (recovers first is);
       added = has.added;
       changes_are = has.changes_are;
+      base = base;
+      base_new =
+          (opened_as (disk.files looked) (disk.files opened) moment base first is opens).2.is_base.above;
       made_for = has.made_for;
       brought = has.brought;
       rise = has.rise;
@@ -276,8 +279,8 @@ module _ {D C : Type 0} (disk : DiskTells D) (clock : ClockTells C)
     pub lasts_first : (now : D) (options : ApplyOptions) (ms : List Mutation) (least : ℕ)
         → ((then : Files) → disk.files opened ≡ Some then → (first : Files)
         → disk.files looked ≡ Some first → LastsAll first (disk.leaves looked)
-        → LeavesShares disk.changes disk.moment disk.since disk.leaves opened now (bytes_at then)
-        base (is_some options.flush_at) options.archive options.drain options.writers ms least)
+        → LeavesShares disk.files disk.changes disk.moment disk.since disk.leaves opened now
+        (bytes_at then) base (is_some options.flush_at) options.archive options.drain options.writers ms least)
         → LastsFirst (outside_at now) options ms least
     unfolding written
     lasts_first now options ms least leaves = if_told (disk.files start) (disk.files looked)
@@ -296,7 +299,7 @@ module _ {D C : Type 0} (disk : DiskTells D) (clock : ClockTells C)
           wrote = written now options ms first is lines.log lines.wrote;
           says = lines.says;
           since = while_written disk.changes disk.moment disk.since disk.leaves disk.read_at
-              disk.lasted_at start opened now first then.0 base (is_some options.flush_at)
+              disk.lasted_at disk.files start opened now first then.0 base (is_some options.flush_at)
               options.archive options.drain options.writers ms least kept opening lines;
           now = λ image left chance.
               adds_lines first then.0 image said least kept (lines.at_last image left chance);

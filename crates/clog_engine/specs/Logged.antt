@@ -95,18 +95,21 @@ pub record AddsFirst (before : Files) (mutations : List Mutation) (least : ℕ) 
   pub undamaged : IsUndamaged before → IsUndamaged image
 
 -- The run's changes are those of a recovery, and then others whose appends have brought these
--- segments, in the order of their ids, each of which is above all that the folder named before. By
--- these so many writers log the lines. Without a flush limit they are appends alone, or those of a
--- drain that has begun, in order; with one, those of writers that flush, in order.
+-- segments, listed in the order of their ids, each of which is above all that the folder named
+-- before. By these so many writers log the lines, from a base above all that on. Without a flush
+-- limit they are appends alone, or those of a drain that has begun; with one, those of writers that
+-- flush; and each comes in its turn.
 pub record HasWrittenLog (o : Outside) (options : ApplyOptions) (before : Files)
     (mutations : List Mutation) (log : List Write) : Type 0 where
   pub between : Option (List Change)
   pub recovered : RecoversAll before o.changes between
   pub added : List Change
   pub changes_are : o.changes_now ≡ option_map (λ made. made ++ added) between
+  pub base : ℕ
+  pub base_new : IsAbove before base
   pub made_for :
-      AreMadeFor (is_some options.flush_at) options.archive options.drain options.writers mutations
-      added
+      AreMadeFor (is_some options.flush_at) options.archive options.drain base options.writers
+      mutations o.files_now added
   pub brought : IsWrittenBy (appends_of added) log
   pub rise : AllPairs (λ (a b : Write). a.id < b.id) log
   pub new : (w : Write) → Contains log w → IsAbove before w.id

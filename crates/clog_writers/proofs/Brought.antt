@@ -24,6 +24,7 @@ use Rattle.std.proofs.Common.{
 use Rattle.std.specs.Prelude.{Contains, is_some, option_map, ◌⊎◌}
 use Rattle.std.specs.List.{filter}
 use Rattle.std.proofs.lemmas.Bool.{true≢false}
+use Rattle.std.proofs.lemmas.Option.{none-some}
 use base.Stored.{Coded}
 use Rattle.clog_base.specs.declared.sizes.Sizes.{Sizes}
 use Rattle.clog_base.specs.Positions.{ordinal_of}
@@ -55,29 +56,22 @@ use Rattle.clog_layout.specs.Ends.{synced_to}
 use Rattle.clog_closing.specs.Stores.{files_by, ids_in}
 use Rattle.clog_closing.proofs.StoreNames.{brings_but_one}
 use Rattle.clog_closing.specs.Beside.{HasGoodDeeds}
-use Rattle.clog_closing.specs.Drained.{GivesNoName, HasBegun, HasNoDeeds, KeepsLog}
+use Rattle.clog_closing.specs.Drained.{HasBegun, HasNoDeeds, KeepsLog}
 use Rattle.clog_closing.specs.Written.{
+  AllStand,
   AreMadeFor,
   BringsOnly,
   HasBrought,
   HasComeInOrder,
   HasGoneInOrder,
 }
-use Rattle.clog_closing.proofs.Begun.{
-  are_true,
-  brings,
-  comes_last,
-  entries,
-  its_taken,
-  log_in,
-  run_changes,
-  stands,
-}
+use Rattle.clog_closing.proofs.Begun.{comes_last, entries, in_turn, its_taken, log_in}
 use Rattle.clog_closing.proofs.Brought.{written_by}
 use Rattle.clog_closing.proofs.Fresh.{none_done}
 use Rattle.clog_closing.proofs.Good.{filed_on}
 use Rattle.clog_closing.proofs.LastEnd.{up_to_last}
 use Rattle.clog_closing.proofs.Leaving.{told_of}
+use Rattle.clog_closing.proofs.PutFiles.{each_stands}
 use Rattle.clog_closing.proofs.Taken.{none_taken}
 use Rattle.write_path.specs.Closed.{PassesNoSegment}
 use Rattle.clog_writers.specs.Logged.{
@@ -91,6 +85,12 @@ use Rattle.clog_writers.specs.Logged.{
 }
 use Rattle.clog_writers.proofs.Coming.{has_come}
 use Rattle.clog_writers.proofs.Leaving.{history, its_writer, lines, shares}
+
+-- what is told now was told before
+told_before : (before now : Option Files) (after : Files) → SameTold before now
+    → now ≡ Some after → (first : Files) × (before ≡ Some first)
+told_before None now after same is = absurd (none-some after (sym same ∙ is))
+told_before (Some first) now after same is = (first, refl)
 
 -- A store that goes on from one that was just opened has the same disk at its opening.
 pub first_disk : {D : Type 0} (files : D → Option Files) (changes : D → Option (List Change))
@@ -216,6 +216,16 @@ module _ {D : Type 0} (files : D → Option Files) (changes : D → Option (List
     changed = growth.changes_are
         ∙ ap (λ (x : D). option_map (λ made. made ++ growth.added) (changes x)) its_disk
 
+    -- each table file that was put stands there
+    pub all_stand : HoldsItButOne files e → IsSound e.notes.log
+        → SameTold (files a.notes.log.disk) (files e.notes.log.disk)
+        → AllStand (files e.notes.log.disk) (files_by (log_of e.notes) (deeds_by e))
+    all_stand left sound told after now file listed =
+        let then = told_before (files a.notes.log.disk) (files e.notes.log.disk) after told now in
+        each_stands then.0 (log_of e.notes) (deeds_by e) after
+        (left then.0 after (ap files its_disk ∙ then.1) now) sound.below sound.stored.fits file
+        listed
+
     pub still_told : ((d : D) → is_some (changes d) ≡ is_some (files d))
         → SameTold (files a.notes.log.disk) (files e.notes.log.disk)
     still_told tells =
@@ -224,9 +234,10 @@ module _ {D : Type 0} (files : D → Option Files) (changes : D → Option (List
         (tells e.notes.log.disk) changed
 
     brought_by : IsNoteLog e.notes → (flushing archives drain : Bool) (writers : ℕ)
-        (ms : List Mutation) → AreMadeFor flushing archives drain writers ms growth.added
-        → HasBrought changes a.notes.log.disk e.notes.log.disk a.notes.base flushing archives drain
-        writers ms ws
+        (ms : List Mutation) → AreMadeFor flushing archives drain a.notes.base writers ms
+        (files e.notes.log.disk) growth.added
+        → HasBrought files changes a.notes.log.disk e.notes.log.disk a.notes.base flushing archives
+        drain writers ms ws
     brought_by notes flushing archives drain writers ms made_for = record {
       added = growth.added;
       changes_are = changed;
@@ -242,12 +253,13 @@ module _ {D : Type 0} (files : D → Option Files) (changes : D → Option (List
   module _ (appends : AppendsAlone changes e) (ordered : HasOrdered changes e)
       (settled : AreSettled e.notes e.files) (notes : IsNoteLog e.notes)
       (sound : IsSound e.notes.log) (apart : (n : EntryNote) → Contains e.notes.kept n
-      → Contains e.dropped (ordinal_of n.start.0) → ⊥) (drain : Bool) (sizes : Sizes)
-      (base : ℕ) (ms : List Mutation) where
+      → Contains e.dropped (ordinal_of n.start.0) → ⊥) (good : HasGoodDeeds (Held e))
+      (there : AllStand (files e.notes.log.disk) (files_by (log_of e.notes) (deeds_by e)))
+      (drain : Bool) (sizes : Sizes) (base : ℕ) (ms : List Mutation) where
     abbrev pub Brings : Bool → Type 0
     Brings flushing =
-        HasBrought changes a.notes.log.disk e.notes.log.disk a.notes.base flushing a.archives drain
-        sizes.writers ms ws
+        HasBrought files changes a.notes.log.disk e.notes.log.disk a.notes.base flushing a.archives
+        drain sizes.writers ms ws
 
     -- where writers do not flush by appends alone, or all lines are logged
     abbrev pub IsBrought : Bool → Type 0
@@ -274,8 +286,20 @@ module _ {D : Type 0} (files : D → Option Files) (changes : D → Option (List
         none_taken e.notes.base e.notes.logged e.notes.kept _
         (its_taken changes e ordered settled notes sound apart (Held e)) none
 
+    -- the changes in the words of this run, which begins as its opening told
+    abbrev Told : (Bool → ℕ → ℕ → List Mutation → Option Files → List Change → Type 0) → Bool → ℕ
+        → Type 0
+    Told Are archives from =
+        Are archives from sizes.writers ms (files e.notes.log.disk) ordered.growth.added
+
+    as_opened : (Are : Bool → ℕ → ℕ → List Mutation → Option Files → List Change → Type 0)
+        → Told Are e.archives e.notes.base → Told Are a.archives a.notes.base
+    as_opened Are is =
+        subst (λ (x : Bool). Told Are x a.notes.base) its_archives
+        (subst (λ (k : ℕ). Told Are e.archives k) its_base is)
+
     has_gone : LogsShares sizes base ms (Held e) → HasBegun (Held e) (synced_to e.notes.logged)
-        → HasGoneInOrder e.archives sizes.writers ms ordered.growth.added
+        → Told HasGoneInOrder e.archives e.notes.base
     has_gone logs begun =
         let of = e.notes.base in
         let its_own = entries changes e ordered settled notes sound apart (Held e) in
@@ -289,52 +313,40 @@ module _ {D : Type 0} (files : D → Option Files) (changes : D → Option (List
           history = its;
           files = files_by (log_in changes e ordered settled notes sound apart (Held e))
               (deeds_by e);
+          turns = in_turn changes e ordered settled notes sound apart (Held e) sizes its h.lawful
+              are (files e.notes.log.disk) there good.none_archived good.in_sequence good.for_some;
           known = its_writer sizes of ms its_own h;
           shares = λ writer. shares sizes of ms its_own h sizes.writers writer refl;
-          is_appended = brings changes e ordered settled notes sound apart (Held e) sizes its
-              h.lawful are;
-          order = stands changes e ordered settled notes sound apart (Held e) sizes its h.lawful
-              are;
-          only = run_changes changes e ordered settled notes sound apart (Held e) sizes its h.lawful
-              are begun.none_archived;
           last = comes_last changes e ordered settled notes sound apart (Held e) sizes its h.lawful
               are (λ put among n listed.
               let end = low n (subst (λ (l : List EntryNote). Contains l n) all listed) in
               let up = (begun.wide put among).1 in omega (arith, end, up));
-          are_true = are_true changes e ordered settled notes sound apart (Held e) sizes its
-              h.lawful are;
         }
 
     by_drain : drain ≡ true → LogsShares sizes base ms (Held e)
         → HasBegun (Held e) (synced_to e.notes.logged) → IsBrought false
     by_drain full logs begun = (
-      brought_by ordered.growth notes false a.archives drain sizes.writers ms (inr (
-        full,
-        subst (λ (x : Bool). HasGoneInOrder x sizes.writers ms ordered.growth.added)
-            its_archives (has_gone logs begun),
-      )),
+      brought_by ordered.growth notes false a.archives drain sizes.writers ms
+          (inr (full, as_opened HasGoneInOrder (has_gone logs begun))),
       λ plain. inr logs,
     )
 
     -- where writers flush, what was appended are the first of each share
     by_flushes : HoldFirsts sizes.writers ms (e.notes.logged ++ e.notes.kept)
-        → IsHistory sizes.capacity (e.notes.logged ++ e.notes.kept) → GivesNoName (Held e)
-        → IsBrought true
-    by_flushes held in_log names = (
+        → IsHistory sizes.capacity (e.notes.logged ++ e.notes.kept) → IsBrought true
+    by_flushes held in_log = (
       brought_by ordered.growth notes true a.archives drain sizes.writers ms
-          (subst (λ (x : Bool). HasComeInOrder x sizes.writers ms ordered.growth.added)
-          its_archives
+          (as_opened HasComeInOrder
           (has_come changes e ordered settled notes sound apart (Held e) sizes ms held in_log
-          names)),
+          (files e.notes.log.disk) there good.none_archived good.in_sequence good.for_some)),
       λ plain. absurd (true≢false plain),
     )
 
     pub brings_shares : (flushing : Bool) → (flushing ≡ false → IsBegun)
         → HoldFirsts sizes.writers ms (e.notes.logged ++ e.notes.kept)
-        → IsHistory sizes.capacity (e.notes.logged ++ e.notes.kept) → GivesNoName (Held e)
-        → IsBrought flushing
-    brings_shares true begun held in_log names = by_flushes held in_log names
-    brings_shares false begun held in_log names = elim (begun refl) [
+        → IsHistory sizes.capacity (e.notes.logged ++ e.notes.kept) → IsBrought flushing
+    brings_shares true begun held in_log = by_flushes held in_log
+    brings_shares false begun held in_log = elim (begun refl) [
       | inl none ↦ by_appends none
       | inr part ↦ by_drain part.0 part.1 part.2
     ]

@@ -17,29 +17,23 @@ use Rattle.std.specs.Prelude.{Contains}
 use Rattle.clog_base.specs.declared.sizes.Sizes.{Sizes}
 use Rattle.clog_base.specs.Positions.{ordinal_of}
 use Rattle.clog_disk.specs.declared.change.Change.{Change}
+use Rattle.clog_disk.specs.Files.{Files}
 use Rattle.clog_mutation.specs.declared.mutation.Mutation.{Mutation}
 use Rattle.path_core.specs.declared.note.EntryNote.{EntryNote}
 use Rattle.path_core.specs.History.{IsHistory}
-use Rattle.path_core.specs.Keeper.{Holding}
+use Rattle.path_core.specs.Keeper.{Holding, PutFile}
 use Rattle.clog_segments.specs.NoteLog.{IsNoteLog}
-use Rattle.clog_segments.specs.StoreFolder.{IsSound}
+use Rattle.clog_segments.specs.StoreFolder.{IsSound, log_of}
 use Rattle.clog_segments.specs.StoreOrder.{AreSettled}
 use Rattle.clog_segments.specs.StoreState.{HasOrdered, StoreState, deeds_by}
 use Rattle.clog_applied.specs.History.{LoggedLine}
 use Rattle.clog_layout.specs.Logged.{AreNotesOf}
 use Rattle.clog_layout.proofs.Lines.{are_notes, lines_for}
+use Rattle.clog_closing.specs.Beside.{HoldsNote}
+use Rattle.clog_closing.specs.Sequence.{AreInSequence}
 use Rattle.clog_closing.specs.Stores.{files_by, ids_in}
-use Rattle.clog_closing.specs.Written.{HasComeInOrder}
-use Rattle.clog_closing.proofs.Begun.{
-  are_true,
-  are_whole,
-  brings,
-  entries,
-  its_taken,
-  log_in,
-  run_changes,
-  stands,
-}
+use Rattle.clog_closing.specs.Written.{AllStand, HasComeInOrder}
+use Rattle.clog_closing.proofs.Begun.{are_whole, entries, in_turn, its_taken, log_in, own}
 use Rattle.clog_closing.proofs.Taken.{first_history}
 use Rattle.clog_writers.specs.Logged.{HoldFirsts}
 use Rattle.clog_writers.proofs.Crashing.{holds_firsts}
@@ -79,18 +73,18 @@ module _ {D : Type 0} (changes : D → Option (List Change)) (e : StoreState D)
   lines = are_notes taken e.notes.base
       (are_whole changes e ordered settled notes sound apart k)
 
-  pub has_come : (e.archives ≡ false → e.archived ≡ [])
-      → HasComeInOrder e.archives sizes.writers ms ordered.growth.added
-  has_come none_archived = record {
+  pub has_come : (now : Option Files)
+      → AllStand now (files_by (log_of e.notes) (deeds_by e))
+      → (e.archives ≡ false → e.archived ≡ []) → AreInSequence e.files
+      → ((put : PutFile) → Contains e.files put → HoldsNote (own changes e ordered settled notes sound apart k) put)
+      → HasComeInOrder e.archives e.notes.base sizes.writers ms now ordered.growth.added
+  has_come now there none_archived sequence holds = record {
     ids = ids_in (log_in changes e ordered settled notes sound apart k);
     history = history;
     files = files_by (log_in changes e ordered settled notes sound apart k) (deeds_by e);
+    turns = in_turn changes e ordered settled notes sound apart k sizes history in_order lines now
+        there none_archived sequence holds;
     holds = holds_firsts e.notes.base sizes.writers ms taken history lines
         (fewer_held sizes.writers ms taken rest
         (subst (HoldFirsts sizes.writers ms) all_are held));
-    is_appended = brings changes e ordered settled notes sound apart k sizes history in_order lines;
-    order = stands changes e ordered settled notes sound apart k sizes history in_order lines;
-    only = run_changes changes e ordered settled notes sound apart k sizes history in_order lines
-        none_archived;
-    are_true = are_true changes e ordered settled notes sound apart k sizes history in_order lines;
   }

@@ -266,10 +266,11 @@ module _ {D : Type 0} (s : NoteState D) (is : IsNoteLog s)
 
       pub leaves_shares : (base : ℕ) (flushing archives drain : Bool) (least : ℕ)
           → least ≤ lasting_in s.log
-          → (wrote : HasBrought changes first s.log.disk base flushing archives drain writers ms ws)
+          → (wrote : HasBrought files changes first s.log.disk base flushing archives drain writers
+          ms ws)
           → (flushing ≡ false → GoesBeyond wrote.added → length ms ≤ lasting_in s.log)
-          → LeavesShares changes moment since leaves first s.log.disk r base flushing archives
-          drain writers ms least
+          → LeavesShares files changes moment since leaves first s.log.disk r base flushing
+          archives drain writers ms least
       leaves_shares base flushing archives drain least le wrote full =
           let Shown = HasShown r 0 s.log.past s.log.id s.log.sections in
           let then = at_both (files s.log.disk) (read_at s.log.disk s.log.opened) (λ f q.

@@ -53,21 +53,24 @@ pub record WritesShares {D : Type 0} (files : D → Option Files)
     (flushing archives drain : Bool) (writers : ℕ) (mutations : List Mutation) : Type 0 where
   pub log : List Write
   pub history : List LoggedLine
-  pub wrote : HasBrought changes before now base flushing archives drain writers mutations log
+  pub wrote :
+      HasBrought files changes before now base flushing archives drain writers mutations log
   pub says : SaysShares writers mutations log history
   pub only : BringsOnly files before now log
 
 -- The segments that were appended, which say the first of each writer's share. What a crash leaves
 -- since a disk was so, and what it leaves of it now, where nothing passes by chance for what was
 -- written. Where writers do not flush and the changes go beyond appends, all lines last.
-pub record LeavesShares {D : Type 0} (changes : D → Option (List Change)) (moment : D → ℕ)
-    (since : D → ℕ → Files → Type 0) (leaves : D → List ℕ → Option (List ℕ) → Type 0)
+pub record LeavesShares {D : Type 0} (files : D → Option Files)
+    (changes : D → Option (List Change)) (moment : D → ℕ) (since : D → ℕ → Files → Type 0)
+    (leaves : D → List ℕ → Option (List ℕ) → Type 0)
     (before now : D) (r : Reading) (base : ℕ) (flushing archives drain : Bool) (writers : ℕ)
     (mutations : List Mutation) (least : ℕ) : Type 0
   where
     pub log : List Write
     pub history : List LoggedLine
-    pub wrote : HasBrought changes before now base flushing archives drain writers mutations log
+    pub wrote :
+        HasBrought files changes before now base flushing archives drain writers mutations log
     pub says : SaysShares writers mutations log history
     pub meanwhile : LeavesOnly moment since before now
         (λ image. NoChances log image → RestoresShares r history 0 image)

@@ -19,13 +19,7 @@ ghost use Rattle.std.specs.Prelude.{
 ghost use Rattle.clog_io.specs.Causes.{Rose};
 ghost use Rattle.clog_layout.specs.Ends.{synced_to};
 ghost use Rattle.clog_closing.specs.Beside.{HasGoodDeeds};
-ghost use Rattle.clog_closing.specs.Drained.{
-  EndsAs,
-  GivesNoName,
-  HasBegun,
-  HasNoDeeds,
-  KeepsLog,
-};
+ghost use Rattle.clog_closing.specs.Drained.{EndsAs, HasBegun, HasNoDeeds, KeepsLog};
 ghost use Rattle.clog_spec.specs.Sizes.{most_tables};
 ghost use Rattle.path_core.specs.History.{IsHistory};
 ghost use Rattle.path_core.specs.Keeper.{upper_from};
@@ -97,9 +91,7 @@ fn settle<D: Disk>(alloc: Global, store: &mut Store<D>, drain: bool) -> Result<(
         → HasBegun
         (holding_of D.files D.changes D.moment D.faults D.row.coded.code store.new)
         (synced_to store.old.notes.logged) }
-    ensures names { GivesNoName
-        (holding_of D.files D.changes D.moment D.faults D.row.coded.code store.old)
-        → GivesNoName
+    ensures good { HasGoodDeeds
         (holding_of D.files D.changes D.moment D.faults D.row.coded.code store.new) }
     ensures keeps { KeepsLog
         (holding_of D.files D.changes D.moment D.faults D.row.coded.code store.old)
@@ -160,7 +152,7 @@ pub(crate) fn settle_asked<D: Disk>(
     ensures keeps { KeepsLog
         (holding_of D.files D.changes D.moment D.faults D.row.coded.code store.old)
         (holding_of D.files D.changes D.moment D.faults D.row.coded.code store.new) }
-    ensures names { GivesNoName
+    ensures good { HasGoodDeeds
         (holding_of D.files D.changes D.moment D.faults D.row.coded.code store.new) }
     ensures stays { (store.new ≡ store.old) ⊎ (fault ≡ None) }
     ensures first { store.new.first ≡ store.old.first }

@@ -157,8 +157,8 @@ pub fn write_plan<R: Threads + Wait + Sync, D: Disk + Send + Drop, G: Gate + Syn
     ensures shown { (mutations : List MutationOf) (opened : Files)
         → IsPlanFor sizes flush_at mutations plan → D.files store.notes.log.disk ≡ Some opened
         → D.lasted_at store.notes.log.disk (D.moment store.notes.log.disk)
-        → LeavesShares D.changes D.moment D.since D.leaves store.notes.log.disk result.0
-        (bytes_at opened) store.notes.base (is_some flush_at) store.archives drain sizes.writers
+        → LeavesShares D.files D.changes D.moment D.since D.leaves store.notes.log.disk
+        result.0 (bytes_at opened) store.notes.base (is_some flush_at) store.archives drain sizes.writers
         mutations (least_of result.1 mutations) }
     ensures spent { (mutations : List MutationOf) → IsPlanFor sizes flush_at mutations plan
         → result.1 ≡ Err Spent → sizes.ordinals ≤ 1 + (2 * length mutations - 1) }

@@ -7,8 +7,9 @@ use Rattle.clog_memtable.specs.Flushing.{HasPutFiles, file_of, files_of}
 use Rattle.clog_memtable.proofs.Flushed.{next_may, nothing_put, one_more, refused_behind}
 use Rattle.clog_segments.proofs.Lived.{lives_further, lives_still}
 use Rattle.clog_closing.specs.Drained.{held_in}
-use Rattle.clog_closing.proofs.Begins.{begun_put, names_put}
+use Rattle.clog_closing.proofs.Begins.{begun_put}
 use Rattle.clog_closing.proofs.Going.{ends_by, keeps_put}
+use Rattle.clog_closing.proofs.Good.{good_first}
 use Rattle.clog_closing.proofs.draining.flush_each.Goals as goal
 
 pub loop-memtable-init : goal.loop-memtable-init
@@ -62,7 +63,9 @@ returns-in-Err-clause-on g c =
     record {
       begun = λ upper reach.
           begun_put upper c.args.memtables.now reach (held a) (held b) l.memtable-index put;
-      names = names_put (held a) (held b) files put;
+      good = λ good holds.
+          good_first (held a) (held b) c.args.memtables.now l.memtable-index c.requires.may holds
+          good put;
       keeps = keeps_put (held a) (held b) files put;
       ends = ends_by (held l.store) (held b) (Err c.in-Err.fault) l.invariant.runs
           (subst (λ (r : Result (Unit {0}) KeeperFault). HasKeeperCause (held l.store) (held b) r)
@@ -96,7 +99,8 @@ returns-clause-on g c =
     record {
       begun = λ upper reach.
           begun_put upper c.args.memtables.now reach before now l.memtable-index put;
-      names = names_put before now (files_of (take l.memtable-index c.args.memtables.now)) put;
+      good = λ good holds.
+          good_first before now c.args.memtables.now l.memtable-index c.requires.may holds good put;
       keeps = keeps_put before now (files_of (take l.memtable-index c.args.memtables.now)) put;
       ends = record { stopped = l.invariant.runs; counts = tt };
       first = l.invariant.first;

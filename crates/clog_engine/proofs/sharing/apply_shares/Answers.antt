@@ -98,11 +98,11 @@ returns-clause-applies g c left left_now f h ms planned =
     c.now_ms-opened_ms.result base opening.opens opening.any_moment opening.recovers now options ms
     (least_of outcome ms)
     (λ then files_are first is_first lasting.
-    subst (λ (x : Bool). LeavesShares g.D.Disk.changes g.D.Disk.moment g.D.Disk.since
-    g.D.Disk.leaves opened now (bytes_at then) base flushing x options.drain options.writers ms
+    subst (λ (x : Bool). LeavesShares g.D.Disk.files g.D.Disk.changes g.D.Disk.moment
+    g.D.Disk.since g.D.Disk.leaves opened now (bytes_at then) base flushing x options.drain options.writers ms
     (least_of outcome ms)) archives
-    (subst (λ (n : ℕ). LeavesShares g.D.Disk.changes g.D.Disk.moment g.D.Disk.since
-    g.D.Disk.leaves opened now (bytes_at then) base flushing store.archives options.drain n ms
+    (subst (λ (n : ℕ). LeavesShares g.D.Disk.files g.D.Disk.changes g.D.Disk.moment
+    g.D.Disk.since g.D.Disk.leaves opened now (bytes_at then) base flushing store.archives options.drain n ms
     (least_of outcome ms)) writers
     (done.shown ms then planned.plan files_are
     (subst (g.D.Disk.lasted_at opened) opening.began (opening.lasted first is_first lasting))))) in

@@ -70,3 +70,14 @@ returns-in-Err-clause-begun g c = λ none.
     let D = g.D.Disk in
     let h = holding_of D.files D.changes D.moment D.faults g.row.D.coded.code c.args.store.now in
     begun_of_none h (synced_to h.logged) none
+
+pub returns-in-Ok-clause-good : goal.returns-in-Ok-clause-good
+returns-in-Ok-clause-good g c =
+    let D = g.D.Disk in
+    let h = holding_of D.files D.changes D.moment D.faults g.row.D.coded.code c.args.store.now in
+    let put = c.in-Ok.ensures in
+    c.drain.ensures.on.good c.requires.good
+    (subst (λ (ms : List Memtable). (m : Memtable) → Contains ms m → HoldsNote h (file_of m))
+    (sym c.as_slice.ensures.value)
+    (hold_notes h c.requires.in_log.0 c.requires.in_log.1 c.requires.few c.requires.tables
+    c.requires.noted.below c.args.drain c.in-Ok.memtables.items put.none put.all))

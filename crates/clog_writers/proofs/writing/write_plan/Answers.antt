@@ -16,6 +16,7 @@ use Rattle.clog_writers.specs.Left.{WritesShares, least_of}
 use Rattle.clog_writers.specs.Placed.{AreAtTheirLines}
 use Rattle.clog_writers.specs.Written.{HasReceipts, AsksFor, TellsWrittenShares}
 use Rattle.clog_writers.proofs.Brought.{
+  all_stand,
   apart_on,
   begun_on,
   brings_only,
@@ -103,12 +104,16 @@ returns-clause-wrote g c = λ ms plan.
     let in_log = in_log_on D.files D.changes D.moment D.faults g.row.D.coded a b e f
     c.requires.fresh shares.beside settled.keeps settled.first sizes.capacity
     (shares.in_log ms plan.dealt) in
+    let there = all_stand D.files D.changes D.moment D.faults g.row.D.coded a b e f
+    c.requires.fresh shares.beside settled.keeps settled.first told.grown told.left told.sound
+    (still_told D.files D.changes D.moment D.faults g.row.D.coded a b e f c.requires.fresh
+    shares.beside settled.keeps settled.first told.grown c.disks_tell_both.ensures) in
     let has = brings_shares D.files D.changes D.moment D.faults g.row.D.coded a b e f
     c.requires.fresh shares.beside settled.keeps settled.first told.alone told.ordered told.settled
-    told.notes told.sound apart c.args.drain sizes base ms (is_some f)
+    told.notes told.sound apart settled.good there c.args.drain sizes base ms (is_some f)
     (λ plain. begun_on D.files D.changes D.moment D.faults g.row.D.coded a b e f c.requires.fresh
     shares.beside settled.keeps settled.first c.args.drain _ _
-    (settled.begun (c.is_some-flushing.ensures ∙ plain)) logs) held in_log settled.names in
+    (settled.begun (c.is_some-flushing.ensures ∙ plain)) logs) held in_log in
     subst (λ (d : g.row.D.Denot). WritesShares D.files D.changes a.notes.log.disk d a.notes.base
     (is_some f) a.archives c.args.drain sizes.writers ms) (sym told.disk)
     (record {
@@ -167,12 +172,16 @@ returns-clause-shown g c = λ ms opened plan is lasted.
     let in_log = in_log_on D.files D.changes D.moment D.faults g.row.D.coded a b e f
     c.requires.fresh shares.beside settled.keeps settled.first sizes.capacity
     (shares.in_log ms plan.dealt) in
+    let there = all_stand D.files D.changes D.moment D.faults g.row.D.coded a b e f
+    c.requires.fresh shares.beside settled.keeps settled.first told.grown told.left told.sound
+    (still_told D.files D.changes D.moment D.faults g.row.D.coded a b e f c.requires.fresh
+    shares.beside settled.keeps settled.first told.grown c.disks_tell_both.ensures) in
     let has = brings_shares D.files D.changes D.moment D.faults g.row.D.coded a b e f
     c.requires.fresh shares.beside settled.keeps settled.first told.alone told.ordered told.settled
-    told.notes told.sound apart c.args.drain sizes base ms (is_some f)
+    told.notes told.sound apart settled.good there c.args.drain sizes base ms (is_some f)
     (λ plain. begun_on D.files D.changes D.moment D.faults g.row.D.coded a b e f c.requires.fresh
     shares.beside settled.keeps settled.first c.args.drain _ _
-    (settled.begun (c.is_some-flushing.ensures ∙ plain)) logs) held in_log settled.names in
+    (settled.begun (c.is_some-flushing.ensures ∙ plain)) logs) held in_log in
     left_by D.files D.changes D.moment D.since D.leaves D.read_at D.lasted_at
     c.disks_read_now.ensures a.notes.log.disk e
     (its_disk D.files D.changes D.moment D.faults g.row.D.coded a b e f c.requires.fresh
