@@ -13,6 +13,7 @@ pub mod Following
 pub mod Fresh
 pub mod Going
 pub mod Good
+pub mod GoodDrops
 pub mod LastEnd
 pub mod Leaving
 pub mod Logs
@@ -35,3 +36,4 @@ mod WorkedComing
 mod WorkedDeeds
 mod WorkedEnds
 mod WorkedEntry
+mod WorkedFiles

@@ -40,8 +40,8 @@ pub record Drains (before now : Holding) (memtables : List Memtable) : Type 0 wh
   pub finished : HasFinished false now
   pub files_are : now.files ≡ before.files ++ files_of memtables
 
--- However far a drain up to a key has come: each table file that was put has the whole log up to the
--- key in its interval, and where the keeper does not archive no segment has an archive name.
+-- However far a drain up to a key has come: each table file that was put has the whole log up to
+-- the key in its interval, and where the keeper does not archive no segment has an archive name.
 pub record HasBegun (h : Holding) (upper : ℕ) : Type 0 where
   pub wide : (put : PutFile) → Contains h.files put → (put.lower ≡ 0) × (put.upper ≡ upper)
   pub none_archived : h.opening.archives ≡ false → h.archived ≡ []
@@ -64,9 +64,9 @@ StaysAlive disk before now =
     → LivesOn disk.files disk.moment disk.since disk.leaves disk.read_at disk.lasted_at before now
 
 -- What a step of a drain makes of a store that runs, whatever it answers: with files for these
--- memtables, or for the first of them, a drain up to a key is one up to that key still; what was good
--- that the store had done beside its log is so still, where each memtable's file holds an entry; the
--- log is as it was and lives on; and the step ends as it answers.
+-- memtables, or for the first of them, a drain up to a key is one up to that key still; what the
+-- store had done beside its log is good still where it was, and each memtable's file holds an entry;
+-- the log is as it was and lives on; and the step ends as it answers.
 pub record HasGoneOn {D : Type 0} (disk : DiskTells D) (code : D → Gv) (before now : StoreState D)
     (memtables : List Memtable) (result : Result (Unit {0}) KeeperFault) : Type 0 where
   pub begun : (upper : ℕ) → ReachTo upper memtables → HasBegun (held_in disk code before) upper

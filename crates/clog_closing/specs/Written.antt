@@ -93,13 +93,14 @@ abbrev pub AllStand : Option Files → List TableFile → Type 0
 AllStand now files = (after : Files) → now ≡ Some after → (file : TableFile)
     → Contains files file → IsTableIn (bytes_at after) file
 
--- The changes of a run behind its opening, each in its turn. What they appended, to the segments of
--- these ids, is a history in the order of the log. They put no table file but these, which are true
--- for the history: a table's follow one another from the base on, each holds one of its entries,
--- comes behind those of its table up to its end, and ends at most one segment behind an entry; and
--- where the disk tells its files, each of them stands there. They remove no file but segments, each
--- behind all its bytes and table files that hold it; where archives are kept behind its archive name
--- too, and no name is given but these. Of the call with which a disk has failed nothing is said.
+-- The changes of a run behind its opening, each in its turn. What they appended, to the segments
+-- of these ids, is a history in the order of the log. They put no table file but these, which are
+-- true for the history: a table's follow one another from the base on, each holds one of its
+-- entries, comes behind those of its table up to its end, and ends at most one segment behind an
+-- entry; and where the disk tells its files, each of them stands there. They remove no file but
+-- segments, each behind all its bytes and files that were put and hold it; where archives are kept
+-- behind its archive name too, and they give no name but these. The call with which a disk has
+-- failed is not among them.
 pub record AreInTurn (archives : Bool) (base : ℕ) (now : Option Files) (changes : List Change)
     (ids : List ℕ) (history : List LoggedLine) (files : List TableFile) : Type 0 where
   pub apart : AllPairs IsBefore history
@@ -112,8 +113,8 @@ pub record AreInTurn (archives : Bool) (base : ℕ) (now : Option Files) (change
   pub near : (file : TableFile) → Contains files file → EndsNear history file
   pub stand : AllStand now files
 
--- Changes by which a drain has begun: the entries of all lines were appended, each by its writer and
--- each writer's in order; behind all of them some table files have come, and segments gone.
+-- Changes by which a drain has begun: the entries of all lines were appended, each by its writer
+-- and each writer's in order; behind all of them some table files have come, and segments gone.
 pub record HasGoneInOrder (archives : Bool) (base writers : ℕ) (mutations : List Mutation)
     (now : Option Files) (changes : List Change) : Type 0 where
   pub ids : List ℕ
@@ -137,9 +138,9 @@ pub record HoldsFirsts (writers : ℕ) (mutations : List Mutation) (history : Li
   pub firsts : (writer : ℕ) → writer < writers
       → AreFirstLines (share_of writers writer mutations) (written_by writer history)
 
--- Changes by which writers flush while they log, however far they have come: entries were appended,
--- of each writer those of the first lines of its share, in order; and among these appends some table
--- files have come, and segments gone.
+-- Changes by which writers flush while they log, however far they have come: entries were
+-- appended, of each writer those of the first lines of its share, in order; and among these appends
+-- some table files have come, and segments gone.
 pub record HasComeInOrder (archives : Bool) (base writers : ℕ) (mutations : List Mutation)
     (now : Option Files) (changes : List Change) : Type 0 where
   pub ids : List ℕ
@@ -148,9 +149,9 @@ pub record HasComeInOrder (archives : Bool) (base writers : ℕ) (mutations : Li
   pub turns : AreInTurn archives base now changes ids history files
   pub holds : HoldsFirsts writers mutations history
 
--- Changes by which writers log lines: where they flush meanwhile, those of writers that have come so
--- far, also if a drain has begun behind them, which is not told apart then; else appends alone, or
--- those of a drain that has begun.
+-- Changes by which writers log lines: where they flush meanwhile, those of writers that have come
+-- so far, also if a drain has begun behind them, which is not told apart then; else appends alone,
+-- or those of a drain that has begun.
 abbrev pub AreMadeFor : Bool → Bool → Bool → ℕ → ℕ → List Mutation → Option Files → List Change
     → Type 0
 AreMadeFor true archives drain base writers mutations now changes =
@@ -159,9 +160,9 @@ AreMadeFor false archives drain base writers mutations now changes =
     AreAppends changes
     ⊎ ((drain ≡ true) × HasGoneInOrder archives base writers mutations now changes)
 
--- The appends among a disk's further changes since it was so have brought these segments, in the
--- order of their ids, which begin at a base. The changes are those by which so many writers log the
--- lines.
+-- The appends among a disk's further changes since it was so have brought these segments, listed
+-- in the order of their ids, which begin at a base. The changes are those by which so many writers
+-- log the lines.
 pub record HasBrought {D : Type 0} (files : D → Option Files)
     (changes : D → Option (List Change)) (before now : D) (base : ℕ)
     (flushing archives drain : Bool) (writers : ℕ) (mutations : List Mutation) (log : List Write)

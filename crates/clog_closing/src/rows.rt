@@ -99,9 +99,9 @@ pub fn a_drain_leaves_no_entry()
 {}
 
 /// Of two lines of one writer the first was appended; then a table file came that holds it, and its
-/// segment went: so far writers that flush may have come, where the file stands there. It may not be
-/// missing then. The segment may not go before the file has come, nor the file come before the entry;
-/// nor may the second line be appended before the first, or one that was not asked for.
+/// segment went: so far writers that flush may have come, where the file stands there. It may not
+/// be missing then. The segment may not go before the file has come, nor the file come before the
+/// entry; nor may the second line be appended before the first, or one that was not asked for.
 pub fn a_table_file_comes_behind_its_entries()
     ensures first { (other : Mutation)
         → HasComeInOrder false 1000 1 (the_mutation ∷ other ∷ []) (Some with_file)

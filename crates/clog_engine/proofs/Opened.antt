@@ -232,7 +232,8 @@ module _ {D C : Type 0} (disk : DiskTells D) (clock : ClockTells C)
       changes_are = has.changes_are;
       base = base;
       base_new =
-          (opened_as (disk.files looked) (disk.files opened) moment base first is opens).2.is_base.above;
+          let then = opened_as (disk.files looked) (disk.files opened) moment base first is opens in
+          then.2.is_base.above;
       made_for = has.made_for;
       brought = has.brought;
       rise = has.rise;

@@ -114,9 +114,9 @@ pub record HasWrittenLog (o : Outside) (options : ApplyOptions) (before : Files)
   pub rise : AllPairs (λ (a b : Write). a.id < b.id) log
   pub new : (w : Write) → Contains log w → IsAbove before w.id
 
--- Where the disk tells its files, that is all that was changed, and the segments say a history whose
--- lines are, of each writer, the first of its share. No other name has come than those of these
--- segments, their archive names and table files.
+-- Where the disk tells its files, these are all changes that it tells, and the segments say a
+-- history whose lines are, of each writer, the first of its share. No other name has come than those
+-- of these segments, their archive names and table files.
 abbrev pub Wrote : Outside → ApplyOptions → List Mutation → Type 0
 Wrote o options mutations = IfSome o.files
     (λ before. (log : List Write) × (history : List LoggedLine)
@@ -125,10 +125,10 @@ Wrote o options mutations = IfSome o.files
     × Told o.files_now (BringsNoOther (map id_of log) before))
 
 -- A crash at any moment of the run leaves what restores so, and a crash now at least so many of the
--- lines, where nothing passes by chance for what was written: the segments that were appended, which
--- say a history whose lines are, of each writer, the first of its share. Its lines come in the order
--- of the log. Where the changes go beyond appends, and there is no flush limit, a crash leaves all of
--- them.
+-- lines, where nothing passes by chance for what was written: the segments that were appended,
+-- which say a history whose lines are, of each writer, the first of its share. Its lines come in
+-- the order of the log. Where the changes go beyond appends, and there is no flush limit, a crash
+-- leaves all of them.
 pub record LeavesFirst (o : Outside) (options : ApplyOptions) (before : Files)
     (mutations : List Mutation) (least : ℕ) : Type 0 where
   pub log : List Write

@@ -103,8 +103,9 @@ fn outcome_of<
 /// themselves leaves the disk uncalled, and what the folder refuses for what it holds leaves it as
 /// it was. After `DiskFault`, `OutOfMemory`, `Groups` and `Memtables` the changes are the first of a
 /// recovery's, or all of these and others: appends to the run's segments, with what a drain changes
-/// behind them; with a flush limit true table files and removals among them, each file behind the
-/// entries that it stands for and each removal behind the files that hold its segment. And, under
+/// behind them; with a flush limit true table files and removals among them. Each table file stands
+/// for an entry and comes behind the entries of its table up to its end, and each removal behind
+/// files that hold its segment; where the disk tells its files, the table files are there. And, under
 /// the two premises above, what a crash leaves restores to what was there before with the first of
 /// the lines that were logged, of each writer the first of its share; the files as they read are one
 /// such image. The gate is told how far each writer and each worker is.

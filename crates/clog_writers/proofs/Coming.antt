@@ -76,7 +76,8 @@ module _ {D : Type 0} (changes : D → Option (List Change)) (e : StoreState D)
   pub has_come : (now : Option Files)
       → AllStand now (files_by (log_of e.notes) (deeds_by e))
       → (e.archives ≡ false → e.archived ≡ []) → AreInSequence e.files
-      → ((put : PutFile) → Contains e.files put → HoldsNote (own changes e ordered settled notes sound apart k) put)
+      → ((put : PutFile) → Contains e.files put
+      → HoldsNote (own changes e ordered settled notes sound apart k) put)
       → HasComeInOrder e.archives e.notes.base sizes.writers ms now ordered.growth.added
   has_come now there none_archived sequence holds = record {
     ids = ids_in (log_in changes e ordered settled notes sound apart k);

@@ -75,8 +75,8 @@ module _ {D : Type 0} (files : D → Option Files) (changes : D → Option (List
   pub left_by : (given : D) → TellsLife given → SameTold (files start) (files b.notes.log.disk)
       → (base : ℕ) (flushing archives drain : Bool) (writers least : ℕ) (ms : List Mutation)
       → HoldFirsts writers ms (b.notes.logged ++ b.notes.kept) → least ≤ lasting_in b.notes.log
-      → (brought : HasBrought files changes start b.notes.log.disk base flushing archives drain writers
-      ms (segments_with b.notes.log.past b.notes.log.id b.notes.log.sections))
+      → (brought : HasBrought files changes start b.notes.log.disk base flushing archives drain
+      writers ms (segments_with b.notes.log.past b.notes.log.id b.notes.log.sections))
       → (flushing ≡ false → GoesBeyond brought.added → length ms ≤ lasting_in b.notes.log)
       → (opened : Files) → files start ≡ Some opened → lasted_at start (moment start)
       → LeavesShares files changes moment since leaves start given (bytes_at opened) base flushing
@@ -84,8 +84,8 @@ module _ {D : Type 0} (files : D → Option Files) (changes : D → Option (List
   left_by given told same base flushing archives drain writers least ms held le brought full
       opened is lasted =
       let log = b.notes.log in
-      subst (λ (d : D). LeavesShares files changes moment since leaves start d (bytes_at opened) base
-      flushing archives drain writers ms least) (sym told.disk)
+      subst (λ (d : D). LeavesShares files changes moment since leaves start d (bytes_at opened)
+      base flushing archives drain writers ms least) (sym told.disk)
       (leaves_shares b.notes told.notes told.stored writers ms held files changes moment since
       leaves read_at lasted_at reads_now start (told.opened ∙ ap moment its)
       (subst (λ (f : D). IsLater moment read_at lasted_at f log.disk) its

@@ -57,9 +57,8 @@ use Rattle.clog_applied.specs.History.{
   written_by,
 }
 use Rattle.clog_closing.proofs.Segments.{placed_line}
-use Rattle.clog_closing.specs.Written.{RestoresLines, SaysFirst}
+use Rattle.clog_closing.specs.Written.{AreFirstLines, HoldsFirsts, RestoresLines, SaysFirst}
 use Rattle.clog_closing.proofs.Showing.{of_log, payload_at, placed_payload}
-use Rattle.clog_closing.specs.Written.{AreFirstLines, HoldsFirsts}
 use Rattle.clog_writers.specs.Left.{RestoresShares, SaysShares, said_by}
 use Rattle.clog_writers.proofs.Firsts.{all_pass}
 

@@ -5,8 +5,7 @@ ghost use Rattle.clog_disk.specs.Files.{Files, bytes_at};
 ghost use Rattle.clog_mutation.specs.declared.mutation.Mutation.{Mutation};
 ghost use Rattle.clog_applied.specs.History.{LoggedLine};
 ghost use Rattle.clog_crash.specs.Log.{Write};
-ghost use Rattle.clog_closing.specs.Written.{RestoresLines, SaysFirst};
-ghost use Rattle.clog_closing.specs.Written.{HoldsFirsts};
+ghost use Rattle.clog_closing.specs.Written.{HoldsFirsts, RestoresLines, SaysFirst};
 ghost use Rattle.clog_writers.specs.Left.{RestoresShares, SaysShares, said_by};
 
 /// What an image restores of a history are again the first of each writer's lines.

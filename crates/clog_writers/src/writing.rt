@@ -114,13 +114,14 @@ fn disks_read_now<D: Disk>(_store: &Store<D>)
 ///
 /// Whatever is answered, the appends among the disk's further changes have brought segments, and no
 /// other names have come than those of these, their archive names and table files. Without
-/// `flush_at` the changes are appends alone; with `drain` perhaps true table files and removals
-/// behind them, in order, once all lines are logged. With it true table files and removals stand
-/// among the appends, each in its turn: a file behind the entries that it stands for, a removal
-/// behind the files that hold its segment. Where all lasted before, each image of a crash
-/// since then restores what the folder restored, and lines of the plan, of each writer the first of
-/// its share; at `Ok`, and without `flush_at` once the changes go beyond appends, each image of now
-/// restores all lines. Each file that was there stands as it was.
+/// `flush_at` the changes are appends alone; with `drain` perhaps table files and removals behind
+/// them, once all lines are logged. With `flush_at` table files and removals stand among the appends.
+/// Each comes in its turn: a table file, which is true and holds an entry, behind the entries of its
+/// table up to its end; a removal behind all bytes of its segment and files that were put that hold
+/// it. Where the disk tells its files, the table files are there. Where all lasted before, each
+/// image of a crash since then restores what the folder restored, and lines of the plan, of each
+/// writer the first of its share; at `Ok`, and without `flush_at` once the changes go beyond
+/// appends, each image of now restores all lines. Each file that was there stands as it was.
 ///
 /// `OutOfMemory`: memory was refused for the path, by a sync or a flush, or for the drain's table
 /// files;
@@ -158,8 +159,8 @@ pub fn write_plan<R: Threads + Wait + Sync, D: Disk + Send + Drop, G: Gate + Syn
         → IsPlanFor sizes flush_at mutations plan → D.files store.notes.log.disk ≡ Some opened
         → D.lasted_at store.notes.log.disk (D.moment store.notes.log.disk)
         → LeavesShares D.files D.changes D.moment D.since D.leaves store.notes.log.disk
-        result.0 (bytes_at opened) store.notes.base (is_some flush_at) store.archives drain sizes.writers
-        mutations (least_of result.1 mutations) }
+        result.0 (bytes_at opened) store.notes.base (is_some flush_at) store.archives drain
+        sizes.writers mutations (least_of result.1 mutations) }
     ensures spent { (mutations : List MutationOf) → IsPlanFor sizes flush_at mutations plan
         → result.1 ≡ Err Spent → sizes.ordinals ≤ 1 + (2 * length mutations - 1) }
     ensures rows { (mutations : List MutationOf) → IsPlanFor sizes flush_at mutations plan

@@ -3,7 +3,7 @@ use Rattle.path_core.specs.declared.keeper.KeeperFault.{KeeperFault}
 use Rattle.clog_segments.proofs.Outcomes.{ok_then}
 use Rattle.clog_closing.specs.Drained.{HasGoneOn, held_in}
 use Rattle.clog_closing.proofs.Going.{gone_on}
-use Rattle.clog_closing.proofs.Good.{drains as drains_by}
+use Rattle.clog_closing.proofs.GoodDrops.{drains as drains_by}
 use Rattle.clog_closing.proofs.draining.drain.Goals as goal
 
 pub returns-in-Ok-clause-drains : goal.returns-in-Ok-clause-drains

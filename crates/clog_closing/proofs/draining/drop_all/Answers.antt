@@ -5,7 +5,7 @@ use Rattle.path_core.specs.Keeper.{HasKeeperCause, Holding}
 use Rattle.clog_closing.specs.Drained.{held_in}
 use Rattle.clog_closing.proofs.Begins.{begun_drop, begun_refused}
 use Rattle.clog_closing.proofs.Going.{ends_by, keeps_drop, keeps_refused, same_end}
-use Rattle.clog_closing.proofs.Good.{good_drop, good_refused}
+use Rattle.clog_closing.proofs.GoodDrops.{good_drop, good_refused}
 use Rattle.clog_closing.proofs.draining.drop_all.Goals as goal
 
 pub returns-in-Ok-clause-on : goal.returns-in-Ok-clause-on

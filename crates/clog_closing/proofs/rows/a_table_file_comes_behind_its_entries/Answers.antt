@@ -1,4 +1,5 @@
 use Rattle.clog_closing.proofs.WorkedComing as worked
+use Rattle.clog_closing.proofs.WorkedFiles.{not_missing}
 use Rattle.clog_closing.proofs.rows.a_table_file_comes_behind_its_entries.Goals as goal
 
 pub returns-clause-first : goal.returns-clause-first
@@ -20,4 +21,4 @@ returns-clause-unasked g archives base writers now = worked.not_unasked archives
 
 pub returns-clause-missing : goal.returns-clause-missing
 returns-clause-missing g archives base writers ms changes =
-    worked.not_missing archives base writers ms changes
+    not_missing archives base writers ms changes

@@ -2,7 +2,7 @@ use Rattle.std.proofs.Common.{[], ◌∷◌}
 use Rattle.clog_base.proofs.Members.{further, here}
 use Rattle.clog_applied.specs.Worked.{comes, file_to, goes_in, goes_out, the_end}
 use Rattle.clog_closing.specs.WorkedComing.{for_nothing, overwritten_changes}
-use Rattle.clog_closing.proofs.WorkedComing as worked
+use Rattle.clog_closing.proofs.WorkedFiles as worked
 use Rattle.clog_closing.proofs.rows.table_files_of_a_run_stand_for_something.Goals as goal
 
 pub returns-clause-nothing : goal.returns-clause-nothing
