@@ -55,10 +55,32 @@ use Rattle.clog_applied.specs.History.{
   written_by,
 }
 use Rattle.clog_applied.specs.Onward.{EndsNear}
-use Rattle.clog_applied.specs.Worked.{come_early, comes, drained_changes, far_end, file_name, file_to, goes_in, goes_out, gone_early, line_at, log_name, one_logged, the_end, with_file}
+use Rattle.clog_applied.specs.Worked.{
+  come_early,
+  comes,
+  drained_changes,
+  far_end,
+  file_name,
+  file_to,
+  goes_in,
+  goes_out,
+  gone_early,
+  line_at,
+  log_name,
+  one_logged,
+  the_end,
+  with_file,
+}
 use Rattle.clog_applied.proofs.Lists.{from_filter, in_filter}
 use Rattle.clog_applied.proofs.Merged.{of_entry}
-use Rattle.clog_applied.proofs.rows.Drained.{inside, is_named_so, is_true, of_each, spelled_to, store_went}
+use Rattle.clog_applied.proofs.rows.Drained.{
+  inside,
+  is_named_so,
+  is_true,
+  of_each,
+  spelled_to,
+  store_went,
+}
 use Rattle.clog_applied.proofs.rows.Empty.{all_of_one, one_apart}
 use Rattle.clog_applied.proofs.rows.Synced.{touches_first}
 use Rattle.clog_applied.proofs.rows.Wrong.{is_the_one, the_one_is}

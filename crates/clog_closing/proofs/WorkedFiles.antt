@@ -1,5 +1,27 @@
--- The worked rows of table files that may not come while writers flush, or have to be there.
-use Rattle.std.proofs.Common.{◌≡◌, ℕ, Bool, inl, inr, List, [], ◌∷◌, Option, Some, refl, sym, ◌∙◌, ap, subst, arith}
+-- The worked rows of table files that may not come while writers flush, or have to be there, and of
+-- segments that may not go.
+use Rattle.std.proofs.Common.{
+  ◌≡◌,
+  ℕ,
+  Bool,
+  inl,
+  inr,
+  List,
+  [],
+  ◌∷◌,
+  Option,
+  Some,
+  refl,
+  sym,
+  ◌∙◌,
+  ap,
+  subst,
+  arith,
+  true,
+  ◌<◌,
+  ◌++◌,
+  length,
+}
 use Rattle.std.specs.Prelude.{Contains, unwrap_or}
 use Rattle.std.specs.FinMap.{get-empty}
 use Rattle.std.specs.Cmp.Lexicographic.{slice_cmp}
@@ -8,11 +30,12 @@ use Rattle.std.specs.List.Sorted.{IsStrictlySortedBy}
 use Rattle.std.specs.Ordering.{nat_cmp}
 use Rattle.std.proofs.lemmas.Bool.{eq-eqb}
 use Rattle.std.proofs.lemmas.List.Elements.{Contains-append_left}
-use Rattle.clog_spec.specs.Names.{table_name_of}
+use Rattle.clog_spec.specs.Names.{table_name_of, archive_name_of}
 use Rattle.clog_base.specs.declared.cell.Table.{Table}
-use Rattle.clog_base.proofs.Members.{further, here, in_map, only_one}
+use Rattle.clog_base.proofs.Members.{further, here, in_map, only_one, first_or_further}
 use Rattle.clog_base.proofs.NameLaws.{one_table}
 use Rattle.clog_disk.specs.declared.change.Change.{Change}
+use Rattle.clog_disk.specs.declared.change.Change.TheVariants as change
 use Rattle.clog_disk.specs.Files.{Files, no_files}
 use Rattle.clog_mutation.specs.declared.mutation.Mutation.{Mutation}
 use Rattle.clog_mutation.specs.Payload.{cells_of}
@@ -21,15 +44,28 @@ use Rattle.clog_table.specs.declared.table_file.TableFile.{TableFile}
 use Rattle.clog_table.specs.Format.{table_file_bytes}
 use Rattle.clog_table.specs.Refusals.{IsFileOf}
 use Rattle.clog_table.proofs.Again.{one_table_file}
-use Rattle.clog_crash.specs.Worked.{first_table, logged, the_mutation}
+use Rattle.clog_crash.specs.Worked.{first_table, logged, the_mutation, the_segment}
 use Rattle.clog_applied.specs.Early.{AreRunChanges}
-use Rattle.clog_applied.specs.History.{Line, is_by, line_of, written_by}
-use Rattle.clog_applied.specs.Worked.{comes, file_name, goes_in, goes_out, one_line}
+use Rattle.clog_applied.specs.History.{Line, is_by, line_of, written_by, LoggedLine}
+use Rattle.clog_applied.specs.Worked.{
+  comes,
+  file_name,
+  goes_in,
+  goes_out,
+  one_line,
+  drained_changes,
+  log_name,
+}
 use Rattle.clog_applied.proofs.Lists.{in_filter}
 use Rattle.clog_applied.proofs.Merged.{of_entry}
 use Rattle.clog_applied.proofs.rows.Drained.{is_named_so, spelled}
-use Rattle.clog_closing.specs.WorkedComing.{for_nothing, hollow, hollow_changes}
+use Rattle.clog_closing.specs.WorkedComing.{for_nothing, hollow, hollow_changes, cut_off_changes}
 use Rattle.clog_closing.specs.Written.{HasComeInOrder}
+use Rattle.std.proofs.lemmas.List.{append-nil, length-append}
+use Rattle.clog_crash.specs.Grown.{appends_of}
+use Rattle.clog_crash.proofs.changes.Names.{one_id}
+use Rattle.clog_crash.proofs.counts.Growing.{grown_here}
+use Rattle.clog_applied.specs.Appended.{IsAppended, appended, entries_in}
 use Rattle.clog_closing.proofs.WorkedComing.{f, its_entry, the_entry}
 
 none_ordered : IsFileOf first_table (table_file_bytes hollow) hollow
@@ -136,3 +172,47 @@ not_hollow archives base now has =
           (ap (λ (l : Line). l.mutation) line) (here logged []);
       same_table = refl;
     })
+
+-- ---- segments that may not go
+
+-- the worked segment is one of those that were appended
+is_appended_to : (changes : List Change) (ids : List ℕ) (history : List LoggedLine)
+    → IsAppended changes ids history → Contains (appends_of changes) (log_name, the_segment)
+    → Contains ids 1000
+is_appended_to changes ids history is listed =
+    let a = is.only (log_name, the_segment) listed in
+    let has = (is.kept.each (a.id, entries_in a.id history)
+    (in_map (λ (i : ℕ). (i, entries_in i history)) ids a.id a.listed)).0 in
+    subst (λ (i : ℕ). Contains ids i) (one_id 1000 a.id (omega arith) has.fits (sym a.named))
+    a.listed
+
+-- without its archive name, where archives are kept
+pub not_unnamed : (base writers : ℕ) (ms : List Mutation) (now : Option Files)
+    → HasComeInOrder true base writers ms now drained_changes → ⊥
+not_unnamed base writers ms now has =
+    let its = is_appended_to drained_changes has.ids has.history has.turns.is_appended
+    (here (log_name, the_segment) []) in
+    let link = change.Link log_name (archive_name_of 1000) in
+    elim (first_or_further goes_in (comes f ∷ []) link
+    (has.turns.order.removed_archived refl (goes_in ∷ comes f ∷ []) [] 1000 its refl)) [
+      | inl same ↦ (let clash : goes_in ≡ link = same in cc)
+      | inr more ↦ (let clash : comes f ≡ link = only_one (comes f) link more in cc)
+    ]
+
+-- before all its bytes were appended
+pub not_cut_off : (archives : Bool) (base writers : ℕ) (ms : List Mutation) (now : Option Files)
+    (more : List ℕ) → 0 < length more
+    → HasComeInOrder archives base writers ms now (cut_off_changes more) → ⊥
+not_cut_off archives base writers ms now more some has =
+    let its = is_appended_to (cut_off_changes more) has.ids has.history has.turns.is_appended
+    (here (log_name, the_segment) ((log_name, more) ∷ [])) in
+    let front : appended (goes_in ∷ comes f ∷ []) 1000 ≡ the_segment =
+    grown_here log_name the_segment [] ∙ append-nil the_segment in
+    let all : appended (cut_off_changes more) 1000 ≡ the_segment ++ more =
+    grown_here log_name the_segment ((log_name, more) ∷ [])
+    ∙ ap (λ (l : List ℕ). the_segment ++ l) (grown_here log_name more [] ∙ append-nil more) in
+    let whole = has.turns.order.removed_whole (goes_in ∷ comes f ∷ [])
+    (change.Append log_name more ∷ []) 1000 its refl in
+    let long : length the_segment ≡ length (the_segment ++ more) =
+    ap length (sym front ∙ whole ∙ all) in
+    let parts = length-append the_segment more in omega (arith, long, parts, some)

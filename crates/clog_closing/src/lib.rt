@@ -14,6 +14,6 @@ pub use laws::{
 };
 pub use rows::{
     a_drain_leaves_no_entry, a_table_file_comes_behind_its_entries, a_table_file_holds_what_lasts,
-    segments_go_that_table_files_hold, table_files_of_a_run_stand_for_something,
-    the_last_segment_alone_is_torn,
+    segments_go_that_table_files_hold, segments_of_a_run_go_whole,
+    table_files_of_a_run_stand_for_something, the_last_segment_alone_is_torn,
 };

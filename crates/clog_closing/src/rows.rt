@@ -3,6 +3,7 @@
 //! disk.
 ghost use Rattle.std.specs.Prelude.{
   ◌≡◌,
+  ◌<◌,
   ◌≤◌,
   ◌∷◌,
   ℕ,
@@ -13,6 +14,7 @@ ghost use Rattle.std.specs.Prelude.{
   Some,
   [],
   false,
+  length,
   true,
 };
 ghost use Rattle.clog_disk.specs.declared.change.Change.{Change};
@@ -34,6 +36,7 @@ ghost use Rattle.clog_applied.specs.Worked.{
 ghost use Rattle.clog_closing.specs.Beside.{HasFinished, HasGoodDeeds};
 ghost use Rattle.clog_closing.specs.Worked.{both_whole, first_torn, second_torn, two_segments};
 ghost use Rattle.clog_closing.specs.WorkedComing.{
+  cut_off_changes,
   for_nothing,
   hollow_changes,
   overwritten_changes,
@@ -133,4 +136,14 @@ pub fn table_files_of_a_run_stand_for_something()
         → HasComeInOrder archives base writers mutations now overwritten_changes → ⊥ }
     ensures hollow { (archives : Bool) (base : ℕ) (now : Option Files)
         → HasComeInOrder archives base 1 one_line now hollow_changes → ⊥ }
+{}
+
+/// A segment does not go before all its bytes were appended; nor, where archives are kept, without
+/// its archive name.
+pub fn segments_of_a_run_go_whole()
+    ensures unnamed { (base writers : ℕ) (mutations : List Mutation) (now : Option Files)
+        → HasComeInOrder true base writers mutations now drained_changes → ⊥ }
+    ensures cut_off { (archives : Bool) (base writers : ℕ) (mutations : List Mutation)
+        (now : Option Files) (more : List ℕ) → 0 < length more
+        → HasComeInOrder archives base writers mutations now (cut_off_changes more) → ⊥ }
 {}
