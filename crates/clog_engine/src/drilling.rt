@@ -56,7 +56,8 @@ fn drill_options() -> ApplyOptions
 }
 
 // Makes lines and plans them, and counts their updates. Each line fits.
-fn plan_made<D: Disk + Drop>(
+fn plan_made<T: Threads + Sync, D: Disk + Drop>(
+    rt: &T,
     alloc: Global,
     sizes: Sizes,
     flush_at: Option<u32>,
@@ -70,7 +71,7 @@ fn plan_made<D: Disk + Drop>(
 {
     let mutations = made(alloc, seed, count)?;
     let updates = count_updates(mutations.as_slice())?;
-    match plan_lines(alloc, sizes, flush_at, mutations, false) {
+    match plan_lines(rt, alloc, sizes, flush_at, mutations, false) {
         Ok(lines) => Ok((lines, updates)),
         Err(status) => Err(status),
     }
@@ -130,7 +131,7 @@ pub(crate) fn drill<
     disks_tell_both(&disk);
     let options = drill_options();
     let sizes = sizes_of(&options);
-    let (lines, updates) = match plan_made(alloc, sizes, options.flush_at, seed, count) {
+    let (lines, updates) = match plan_made(rt, alloc, sizes, options.flush_at, seed, count) {
         Ok(made) => made,
         Err(status) => return (disk, Err(status)),
     };

@@ -39,7 +39,8 @@ fn cells_of(alloc: Global, mutations: &[Mutation], dump: bool) -> Result<CellMap
 
 /// Plans lines for as many writers as the sizes say, which flush at so many updates of a table, or
 /// never.
-pub(crate) fn plan_lines<D: Disk + Drop>(
+pub(crate) fn plan_lines<T: Threads + Sync, D: Disk + Drop>(
+    rt: &T,
     alloc: Global,
     sizes: Sizes,
     flush_at: Option<u32>,
@@ -52,7 +53,7 @@ pub(crate) fn plan_lines<D: Disk + Drop>(
     ensures { PlansLines dump sizes flush_at mutations result }
 {
     let cells = cells_of(alloc, mutations.as_slice(), dump)?;
-    match make_plan(alloc, sizes, flush_at, mutations.into_vec()) {
+    match make_plan(rt, alloc, sizes, flush_at, mutations.into_vec()) {
         Ok(plan) => Ok(PlannedLines { plan, cells }),
         Err(PlanFault::TooLarge { line, size, most }) => Err(Status::TooLarge(line, size, most)),
         Err(PlanFault::OutOfMemory) => Err(Status::OutOfMemory),
@@ -76,5 +77,5 @@ pub(crate) fn read_plan<T: Threads + Sync, S: Source, D: Disk + Drop>(
     let mutations = mutations_of(rt, alloc, &bytes)?;
     // The file goes here: the memory of the lines' writes, and of a dump's cells, is taken next.
     drop(bytes);
-    plan_lines(alloc, sizes, flush_at, mutations, dump)
+    plan_lines(rt, alloc, sizes, flush_at, mutations, dump)
 }

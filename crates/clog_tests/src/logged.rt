@@ -45,7 +45,7 @@ pub(crate) fn logged<R: Threads + Wait + Sync>(
     let Ok(store) = Store::open(alloc, MemDisk::new(alloc), 1000, sizes, way.archives) else {
         return Err(Fail::new("no store"));
     };
-    let Ok(plan) = make_plan(alloc, sizes, None, lines) else {
+    let Ok(plan) = make_plan(rt, alloc, sizes, None, lines) else {
         return Err(Fail::new("no plan"));
     };
     let syncing = Syncing {

@@ -10,6 +10,7 @@ pub mod FlushedShares
 pub mod Apart
 pub mod Totals
 pub mod Dealt
+pub mod LineWrites
 pub mod Seating
 pub mod Gathering
 pub mod Running

@@ -10,6 +10,7 @@ pub mod Logged
 pub mod Settled
 pub mod Placed
 pub mod Planned
+pub mod LineWrites
 pub mod Written
 pub mod Left
 pub mod Worked

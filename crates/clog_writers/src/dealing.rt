@@ -1,6 +1,5 @@
 //! The lines of a file are dealt out to workers: line `n`, from 1, goes to the worker of number `n`
-//! modulo their count. All memory of their writes is taken here; where writers flush, the updates
-//! of each line are counted.
+//! modulo their count. Their writes were prepared side by side, and come in order.
 ghost use Rattle.std.specs.Prelude.{
   ◌≡◌,
   ℕ,
@@ -21,18 +20,20 @@ ghost use Rattle.clog_mutation.specs.declared.mutation.Mutation.{Mutation as Mut
 ghost use Rattle.clog_mutation.specs.Limits.{IsWithinLimits};
 ghost use Rattle.clog_spec.specs.Sizes.{most_tables};
 ghost use Rattle.clog_writers.specs.Crews.{AreDealt};
-ghost use Rattle.clog_writers.specs.Planned.{DealsAll, PreparesLine};
+ghost use Rattle.clog_writers.specs.Planned.{DealsAll};
 ghost use Rattle.clog_writers.specs.Tallied.{IsCountedFor, with_counts};
 ghost use Rattle.write_path.specs.Writes.{IsPrepared};
 
 use crate::fault::PlanFault;
+use crate::preparing::{LineWrite, prepare_lines};
 use crate::tally::LineCounts;
 use crate::worker::Worker;
 use clog_base::Sizes;
 use clog_mutation::Mutation;
 use path_core::Keeper;
 use std::alloc::{AllocError, Global};
-use write_path::{PrepareFault, Prepared};
+use std::thread::Threads;
+use write_path::Prepared;
 
 // A worker that has no lines.
 fn idle_worker<K>(alloc: Global) -> Worker<K>
@@ -55,39 +56,6 @@ fn idle_crew<K: Keeper + Drop>(alloc: Global, sizes: Sizes) -> Result<Vec<Worker
         workers.push(idle_worker(alloc))?;
     }
     Ok(workers)
-}
-
-// The write of a line, with all of its memory.
-fn prepare(
-    alloc: Global,
-    sizes: Sizes,
-    line: u32,
-    mutation: Mutation,
-) -> Result<Prepared, PlanFault>
-    requires within { IsWithinLimits mutation }
-    requires tables { sizes.tables ≡ most_tables }
-    ensures { PreparesLine sizes line mutation result }
-{
-    match Prepared::make(alloc, sizes, line, mutation) {
-        Ok(prepared) => Ok(prepared),
-        Err(PrepareFault::TooLarge { size, max }) => Err(PlanFault::TooLarge {
-            line,
-            size,
-            most: max,
-        }),
-        Err(PrepareFault::OutOfMemory) => Err(PlanFault::OutOfMemory),
-    }
-}
-
-// The updates of a line are counted where writers flush.
-fn counts_for(flush_at: Option<u32>, mutation: &Mutation) -> Option<LineCounts>
-    requires { IsWithinLimits mutation.now }
-    ensures { IsCountedFor flush_at mutation.now result }
-{
-    match flush_at {
-        Some(_) => Some(LineCounts::of(mutation)),
-        None => None,
-    }
 }
 
 // A worker gets a further write, and its counts where they were taken.
@@ -127,8 +95,9 @@ fn give<K: Keeper + Drop>(
 
 /// Deals the lines of a file out to workers that have no seats yet. `TooLarge`: of all lines this
 /// is the first whose entry is larger than half a segment's capacity (`CommitLog.add`). With
-/// `flush_at` the updates of each line are counted.
-pub fn deal<K: Keeper + Drop>(
+/// `flush_at` the updates of each line are counted. Several threads prepare their writes.
+pub fn deal<T: Threads + Sync, K: Keeper + Drop>(
+    rt: &T,
     alloc: Global,
     sizes: Sizes,
     flush_at: Option<u32>,
@@ -139,15 +108,18 @@ pub fn deal<K: Keeper + Drop>(
     requires tables { sizes.tables ≡ most_tables }
     ensures { DealsAll sizes flush_at mutations.items result }
 {
+    let line_writes = prepare_lines(rt, alloc, sizes, flush_at, mutations)?;
     let mut workers = idle_crew(alloc, sizes)?;
     let mut line: u32 = 0;
-    for mutation in mutations {
+    for line_write in line_writes {
         line += 1;
-        let counts = counts_for(flush_at, &mutation);
         // A match, since the exit speaks of the lines that were dealt out.
-        match prepare(alloc, sizes, line, mutation) {
-            Ok(write) => give(workers.as_mut_slice(), sizes, line, write, counts)?,
-            Err(fault) => return Err(fault),
+        match line_write {
+            LineWrite::Made(write, counts) => {
+                give(workers.as_mut_slice(), sizes, line, write, counts)?
+            }
+            LineWrite::Refused(fault) => return Err(fault),
+            LineWrite::Waiting(_) => unreachable!(),
         }
     }
     Ok(workers)

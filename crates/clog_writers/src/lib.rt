@@ -1,8 +1,9 @@
 //! The lines of a mutation file are logged by 1 to 64 writers, each in a thread of its own
 //! (Cassandra's mutation stage, whose threads call `CommitLog.add`), over a path over a store. Line
 //! `n`, from 1, is written by the writer of number `n` modulo their count, each writer's lines in
-//! order. All memory of the writes is taken before the first of them is written. A writer may flush
-//! each table of which it has logged so many updates since its last flush of it.
+//! order. All memory of the writes is taken before the first of them is written, by several threads
+//! that prepare them side by side. A writer may flush each table of which it has logged so many
+//! updates since its last flush of it.
 #![tactic(auto)]
 
 mod crew;
@@ -15,6 +16,7 @@ mod laws;
 mod logging;
 mod placing;
 mod planning;
+mod preparing;
 mod returning;
 mod rows;
 mod run;

@@ -12,6 +12,7 @@ use clog_base::{Position, Sizes};
 use clog_mutation::Mutation;
 use path_core::Keeper;
 use std::alloc::Global;
+use std::thread::Threads;
 use write_path::{PathSeat, Receipt};
 
 /// Workers with their shares of lines, room for their seats, and a place for the receipt of each
@@ -29,8 +30,9 @@ pub struct Plan<K> {
 /// Takes the memory of the lines' writes and receipts; the path's, the syncs' and a drain's come
 /// later. `TooLarge`: of all lines this is the first whose entry is larger than half a segment's
 /// capacity (`CommitLog.add`). With `flush_at` the updates of each line are counted for writers
-/// that flush.
-pub fn make_plan<K: Keeper + Drop>(
+/// that flush. As many threads as there are processors, at most 8, prepare the writes.
+pub fn make_plan<T: Threads + Sync, K: Keeper + Drop>(
+    rt: &T,
     alloc: Global,
     sizes: Sizes,
     flush_at: Option<u32>,
@@ -47,7 +49,7 @@ pub fn make_plan<K: Keeper + Drop>(
     };
     let receipts = vec![in alloc; none; mutations.len()]?;
     let room = Vec::with_capacity(alloc, usize::from(sizes.writers))?;
-    let workers = deal(alloc, sizes, flush_at, mutations)?;
+    let workers = deal(rt, alloc, sizes, flush_at, mutations)?;
     Ok(Plan {
         workers,
         room,

@@ -8,12 +8,12 @@ use Rattle.clog_engine.proofs.MadeLines.{made_fit, made_many, made_within}
 use Rattle.clog_engine.proofs.drilling.plan_made.Goals as goal
 
 pub plan_lines-requires-clause-within : goal.plan_lines-requires-clause-within
-plan_lines-requires-clause-within g c =
+plan_lines-requires-clause-within g c = λ _ _.
     subst (AllByRecursion IsWithinLimits) (sym c.in_ok-mutations.ensures)
     (made_within c.args.seed c.args.count (omega (arith, c.ranges.seed.fits)))
 
 pub plan_lines-requires-clause-few : goal.plan_lines-requires-clause-few
-plan_lines-requires-clause-few g c =
+plan_lines-requires-clause-few g c = λ _ _.
     omega (
       arith,
       ap (λ (ms : List Mutation). length ms) c.in_ok-mutations.ensures,
