@@ -145,9 +145,8 @@ pub(crate) fn place(offset: u32) -> Position {
 fn periodic_commits_follow_one_another(rt: HostRuntime) -> Result<(), Fail> {
     let mode = SyncCore::periodic(10);
     let (first, second, answer) = commit_twice(&rt, rt.alloc(), 4, mode, DELETION)?;
-    assert_eq!(&rt; logged(&first), receipt(1, 60));
-    assert_eq!(&rt; logged(&second), receipt(2, 92));
-    assert_eq!(&rt; done(answer), Some(place(92)));
+    let answered = (logged(&first), logged(&second), done(answer));
+    assert_eq!(&rt; answered, (receipt(1, 60), receipt(2, 92), Some(place(92))));
     Ok(())
 }
 
@@ -155,9 +154,11 @@ fn periodic_commits_follow_one_another(rt: HostRuntime) -> Result<(), Fail> {
 fn a_marker_stands_between_batch_commits(rt: HostRuntime) -> Result<(), Fail> {
     let mode = SyncCore::batch();
     let (first, second, answer) = commit_twice(&rt, rt.alloc(), 4, mode, DELETION)?;
-    assert_eq!(&rt; durable(&first), receipt(1, 60));
-    assert_eq!(&rt; durable(&second), receipt(2, 100));
-    assert_eq!(&rt; done(answer), Some(place(100)));
+    let answered = (durable(&first), durable(&second), done(answer));
+    assert_eq!(&rt;
+        answered,
+        (receipt(1, 60), receipt(2, 100), Some(place(100)))
+    );
     Ok(())
 }
 
@@ -167,9 +168,9 @@ fn a_spent_log_hands_the_write_back(rt: HostRuntime) -> Result<(), Fail> {
     let mode = SyncCore::periodic(10);
     let payload = payload.as_slice();
     let (first, second, answer) = commit_twice(&rt, rt.alloc(), 1, mode, payload)?;
-    assert_eq!(&rt; logged(&first), receipt(1, 2076));
-    assert_eq!(&rt; spent(&second), Some((2048, place(2076))));
-    assert_eq!(&rt; done(answer), Some(place(2076)));
+    let answered = (logged(&first), spent(&second), done(answer));
+    let end = place(2076);
+    assert_eq!(&rt; answered, (receipt(1, 2076), Some((2048, end)), Some(end)));
     Ok(())
 }
 
@@ -186,6 +187,11 @@ impl Noted {
             digits: AtomicU64::new(0),
         }
     }
+
+    // The digits of all points so far.
+    fn digits(&self) -> u64 {
+        self.digits.load(Ordering::SeqCst)
+    }
 }
 
 impl Gate for Noted {
@@ -199,8 +205,7 @@ impl Gate for Noted {
             Point::Returned => 6,
         };
         let note = 10 * u64::from(writer.0) + digit;
-        let before = self.digits.load(Ordering::SeqCst);
-        let now = before.wrapping_mul(100).wrapping_add(note);
+        let now = self.digits().wrapping_mul(100).wrapping_add(note);
         self.digits.store(now, Ordering::SeqCst);
     }
 }
@@ -230,7 +235,7 @@ fn a_gate_is_told_the_writer_and_each_point_in_order(rt: HostRuntime) -> Result<
     let zero = Noted::new();
     let one = Noted::new();
     let _answers = commit_by_two(&rt, rt.alloc(), TWO_TABLES, &zero, &one)?;
-    assert_eq!(&rt; zero.digits.load(Ordering::SeqCst), 1_020_304_040_506);
-    assert_eq!(&rt; one.digits.load(Ordering::SeqCst), 11_121_314_141_516);
+    let digits = [zero.digits(), one.digits()];
+    assert_eq!(&rt; digits, [1_020_304_040_506, 11_121_314_141_516]);
     Ok(())
 }

@@ -149,18 +149,22 @@ fn flush_thrice<R: Wait>(rt: &R, alloc: Global, refusals: u32) -> Result<[Flush;
 #[test]
 fn a_memtable_goes_to_a_file_and_the_next_ones_are_empty(rt: HostRuntime) -> Result<(), Fail> {
     let [first, second, third] = flush_thrice(&rt, rt.alloc(), 0)?;
-    assert_eq!(&rt; flushed(first), Some((0, place(60))));
-    assert_eq!(&rt; emptied(second), Some(place(68)));
-    assert_eq!(&rt; emptied(third), Some(place(68)));
+    let found = (flushed(first), [emptied(second), emptied(third)]);
+    assert_eq!(&rt;
+        found,
+        (Some((0, place(60))), [Some(place(68)), Some(place(68))])
+    );
     Ok(())
 }
 
 #[test]
 fn a_refused_file_is_put_by_the_next_flush(rt: HostRuntime) -> Result<(), Fail> {
     let [first, second, third] = flush_thrice(&rt, rt.alloc(), 1)?;
-    assert_eq!(&rt; first, Flush::OutOfMemory);
-    assert_eq!(&rt; emptied(second), Some(place(68)));
-    assert_eq!(&rt; emptied(third), Some(place(68)));
+    let found = (first, [emptied(second), emptied(third)]);
+    assert_eq!(&rt;
+        found,
+        (Flush::OutOfMemory, [Some(place(68)), Some(place(68))])
+    );
     Ok(())
 }
 
@@ -207,7 +211,6 @@ fn flush_beside<R: Wait>(rt: &R, alloc: Global) -> Result<(Flush, Flush), Fail> 
 #[test]
 fn a_flush_finds_the_turn_taken(rt: HostRuntime) -> Result<(), Fail> {
     let (busy, free) = flush_beside(&rt, rt.alloc())?;
-    assert_eq!(&rt; busy, Flush::Busy(1));
-    assert_eq!(&rt; emptied(free), Some(place(28)));
+    assert_eq!(&rt; (busy, emptied(free)), (Flush::Busy(1), Some(place(28))));
     Ok(())
 }

@@ -55,11 +55,10 @@ fn register_late(alloc: Global) -> Result<(u64, u64, Advance, Advance), Fail> {
 #[test]
 fn a_barrier_waits_for_a_late_operation(rt: HostRuntime) -> Result<(), Fail> {
     let (found, expired, runs, moved) = register_late(rt.alloc())?;
-    assert_eq!(&rt; found, 0);
-    assert_eq!(&rt; expired, 1);
+    assert_eq!(&rt; (found, expired), (0, 1));
     let count = EXPIRED + 1;
-    assert_eq!(&rt; runs, Advance::Running { group: 0, count });
-    assert_eq!(&rt; moved, Advance::Moved(1));
+    let wanted = [Advance::Running { group: 0, count }, Advance::Moved(1)];
+    assert_eq!(&rt; [runs, moved], wanted);
     Ok(())
 }
 
@@ -106,8 +105,6 @@ fn register_stale(alloc: Global) -> Result<(u64, u64), Fail> {
 
 #[test]
 fn a_stale_look_is_refused(rt: HostRuntime) -> Result<(), Fail> {
-    let (found, group) = register_stale(rt.alloc())?;
-    assert_eq!(&rt; found, EXPIRED);
-    assert_eq!(&rt; group, 1);
+    assert_eq!(&rt; register_stale(rt.alloc())?, (EXPIRED, 1));
     Ok(())
 }

@@ -7,21 +7,21 @@ use std::test::Fail;
 #[test]
 fn a_final_bound_takes_what_is_at_or_below_it(rt: HostRuntime) {
     let bound = Bound::Final(Key(60));
-    assert_eq!(rt; accepts(bound, Key(60)), (true, bound));
-    assert_eq!(rt; accepts(bound, Key(61)), (false, bound));
+    let (at, above) = (accepts(bound, Key(60)), accepts(bound, Key(61)));
+    assert_eq!(rt; (at, above), ((true, bound), (false, bound)));
 }
 
 #[test]
 fn a_raising_bound_rises_to_what_it_takes(rt: HostRuntime) {
-    assert_eq!(rt; accepts(Bound::Live, Key(60)), (true, Bound::Live));
-    assert_eq!(rt;
-        accepts(Bound::Raising(Key(0)), Key(60)),
-        (true, Bound::Raising(Key(60)))
-    );
-    assert_eq!(rt;
-        accepts(Bound::Raising(Key(92)), Key(60)),
-        (true, Bound::Raising(Key(92)))
-    );
+    let live = accepts(Bound::Live, Key(60));
+    let raised = accepts(Bound::Raising(Key(0)), Key(60));
+    let kept = accepts(Bound::Raising(Key(92)), Key(60));
+    let wanted = [
+        (true, Bound::Live),
+        (true, Bound::Raising(Key(60))),
+        (true, Bound::Raising(Key(92))),
+    ];
+    assert_eq!(rt; [live, raised, kept], wanted);
 }
 
 #[test]
@@ -32,12 +32,13 @@ fn a_lawful_path_makes_what_is_allowed_alone(rt: HostRuntime) -> Result<(), Fail
         by: 0,
         at: Place::Log,
     };
-    assert!(rt; path.step(&look).is_ok());
-    assert_eq!(rt; path.state().log, 28);
+    let looked = path.step(&look).is_ok();
+    let log = path.state().log;
     let give = Event::GiveTurn {
         by: 0,
         turn: Turn::Sync,
     };
-    assert!(rt; path.step(&give) == Err(StepFault::NotAllowed));
+    let is_refused = path.step(&give) == Err(StepFault::NotAllowed);
+    assert_eq!(rt; (looked, log, is_refused), (true, 28, true));
     Ok(())
 }

@@ -106,9 +106,11 @@ fn a_refused_sync_is_made_again_at_the_same_marker(rt: HostRuntime) -> Result<()
     let Some((logged, fault)) = unsynced(&first) else {
         return Err(Fail::new("it was synced"));
     };
-    assert_eq!(&rt; Some(logged), receipt(1, 60));
-    assert_eq!(&rt; fault, SyncFault::OutOfMemory);
-    assert_eq!(&rt; done(answer), Some(place(60)));
-    assert_eq!(&rt; durable(&second), receipt(2, 100));
+    assert_eq!(&rt;
+        (Some(logged), fault),
+        (receipt(1, 60), SyncFault::OutOfMemory)
+    );
+    let answered = (done(answer), durable(&second));
+    assert_eq!(&rt; answered, (Some(place(60)), receipt(2, 100)));
     Ok(())
 }

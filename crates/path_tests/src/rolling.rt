@@ -72,35 +72,37 @@ fn at(line: u32, id: u64, offset: u32) -> Option<Receipt> {
 #[test]
 fn an_entry_that_leaves_a_byte_free_stays(rt: HostRuntime) -> Result<(), Fail> {
     let (second, answer, third) = commit_sync_commit(&rt, rt.alloc(), 2000, 1964, 95)?;
-    assert_eq!(&rt; logged(&second), at(2, 7, 3992));
-    assert_eq!(&rt; done(answer), Some(place(3992)));
-    assert_eq!(&rt; logged(&third), at(3, 7, 4095));
+    let answered = (logged(&second), done(answer), logged(&third));
+    assert_eq!(&rt;
+        answered,
+        (at(2, 7, 3992), Some(place(3992)), at(3, 7, 4095))
+    );
     Ok(())
 }
 
 #[test]
 fn an_entry_that_fills_the_segment_goes_to_the_next(rt: HostRuntime) -> Result<(), Fail> {
     let (second, answer, third) = commit_sync_commit(&rt, rt.alloc(), 2000, 1964, 96)?;
-    assert_eq!(&rt; logged(&second), at(2, 7, 3992));
-    assert_eq!(&rt; done(answer), Some(place(3992)));
-    assert_eq!(&rt; logged(&third), at(3, 8, 124));
+    let answered = (logged(&second), done(answer), logged(&third));
+    assert_eq!(&rt;
+        answered,
+        (at(2, 7, 3992), Some(place(3992)), at(3, 8, 124))
+    );
     Ok(())
 }
 
 #[test]
 fn a_marker_takes_the_last_bytes(rt: HostRuntime) -> Result<(), Fail> {
     let (second, answer, third) = commit_sync_commit(&rt, rt.alloc(), 2030, 2029, 35)?;
-    assert_eq!(&rt; logged(&second), at(2, 7, 4087));
-    assert_eq!(&rt; done(answer), Some(place(4087)));
-    assert_eq!(&rt; logged(&third), at(3, 8, 63));
+    let answered = (logged(&second), done(answer), logged(&third));
+    assert_eq!(&rt; answered, (at(2, 7, 4087), Some(place(4087)), at(3, 8, 63)));
     Ok(())
 }
 
 #[test]
 fn a_marker_that_does_not_fit_moves_the_log_on(rt: HostRuntime) -> Result<(), Fail> {
     let (second, answer, third) = commit_sync_commit(&rt, rt.alloc(), 2030, 2030, 35)?;
-    assert_eq!(&rt; logged(&second), at(2, 7, 4088));
-    assert_eq!(&rt; done(answer), Some(place(4088)));
-    assert_eq!(&rt; logged(&third), at(3, 8, 63));
+    let answered = (logged(&second), done(answer), logged(&third));
+    assert_eq!(&rt; answered, (at(2, 7, 4088), Some(place(4088)), at(3, 8, 63)));
     Ok(())
 }

@@ -100,9 +100,11 @@ fn has_stopped(commit: &Commit, line: u32, end: u32) -> bool {
 #[test]
 fn each_seat_learns_that_the_log_has_stopped(rt: HostRuntime) -> Result<(), Fail> {
     let (first, second, answer, third) = commit_by_both(&rt, rt.alloc())?;
-    assert_eq!(&rt; stopped(answer), Some((0, 1)));
-    assert_eq!(&rt; has_stopped(&first, 1, 60), true);
-    assert_eq!(&rt; has_stopped(&second, 2, 100), true);
-    assert_eq!(&rt; has_stopped(&third, 3, 132), true);
+    let commits = [
+        has_stopped(&first, 1, 60),
+        has_stopped(&second, 2, 100),
+        has_stopped(&third, 3, 132),
+    ];
+    assert_eq!(&rt; (stopped(answer), commits), (Some((0, 1)), [true; 3]));
     Ok(())
 }

@@ -37,8 +37,10 @@ fn a_table_that_holds_nothing_is_switched_twice(rt: HostRuntime) -> Result<(), F
     let (path, seat) = one_seat(alloc, sizes, SyncCore::batch())?;
     let (seat, first) = path.switch(&rt, alloc, seat, Table(0));
     let (_seat, second) = path.switch(&rt, alloc, seat, Table(0));
-    assert_eq!(&rt; emptied(first), Some(place(28)));
-    assert_eq!(&rt; emptied(second), Some(place(28)));
+    assert_eq!(&rt;
+        [emptied(first), emptied(second)],
+        [Some(place(28)), Some(place(28))]
+    );
     Ok(())
 }
 
@@ -76,10 +78,10 @@ fn switch_behind<R: Wait>(rt: &R, alloc: Global) -> Result<Answers, Fail> {
 #[test]
 fn a_memtable_that_holds_something_is_left_and_waits(rt: HostRuntime) -> Result<(), Fail> {
     let answers = switch_behind(&rt, rt.alloc())?;
-    assert_eq!(&rt; emptied(answers.beside), Some(place(60)));
-    assert_eq!(&rt; left(answers.first), Some(place(60)));
-    assert_eq!(&rt; logged(&answers.commit), receipt(2, 92));
-    assert_eq!(&rt; answers.second, Switch::Waits(0));
+    let bounds = [emptied(answers.beside), left(answers.first)];
+    assert_eq!(&rt; bounds, [Some(place(60)), Some(place(60))]);
+    let behind = (logged(&answers.commit), answers.second);
+    assert_eq!(&rt; behind, (receipt(2, 92), Switch::Waits(0)));
     Ok(())
 }
 
@@ -102,7 +104,6 @@ fn switch_beside<R: Wait>(rt: &R, alloc: Global) -> Result<(Switch, Switch), Fai
 #[test]
 fn a_switch_finds_the_turn_taken(rt: HostRuntime) -> Result<(), Fail> {
     let (busy, free) = switch_beside(&rt, rt.alloc())?;
-    assert_eq!(&rt; busy, Switch::Busy(1));
-    assert_eq!(&rt; emptied(free), Some(place(28)));
+    assert_eq!(&rt; (busy, emptied(free)), (Switch::Busy(1), Some(place(28))));
     Ok(())
 }

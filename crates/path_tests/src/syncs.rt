@@ -25,10 +25,14 @@ fn sync_twice<R: Wait>(
 #[test]
 fn a_fresh_path_is_synced_to_its_start(rt: HostRuntime) -> Result<(), Fail> {
     let (first, second) = sync_twice(&rt, rt.alloc(), SyncCore::batch())?;
-    assert_eq!(&rt; done(first), Some(place(0)));
-    assert_eq!(&rt; done(second), Some(place(0)));
+    assert_eq!(&rt;
+        [done(first), done(second)],
+        [Some(place(0)), Some(place(0))]
+    );
     let (first, second) = sync_twice(&rt, rt.alloc(), SyncCore::periodic(10))?;
-    assert_eq!(&rt; done(first), Some(place(0)));
-    assert_eq!(&rt; done(second), Some(place(0)));
+    assert_eq!(&rt;
+        [done(first), done(second)],
+        [Some(place(0)), Some(place(0))]
+    );
     Ok(())
 }

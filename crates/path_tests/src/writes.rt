@@ -94,9 +94,8 @@ fn one_write_is_the_whole_history(rt: HostRuntime) -> Result<(), Fail> {
     let Some(written) = written else {
         return Err(Fail::new("no write"));
     };
-    assert_eq!(&rt; written.start, Key(28));
-    assert_eq!(&rt; written.end, Key(60));
-    assert_eq!(&rt; written.tables, 1);
+    let Written { start, end, tables } = written;
+    assert_eq!(&rt; (start, end, tables), (Key(28), Key(60), 1));
     seats.push(seat)?;
     let (_keeper, outcome) = path.close(seats);
     assert_eq!(&rt; outcome.end, Key(60));
