@@ -2,6 +2,9 @@
 # distinct keys. Sourced, with `top` set to the repository.
 program=$top/crates/clog_tool/out/clog_tool
 [ -x "$program" ] || { echo "build it first: $top/pinsilver apply </dev/null" >&2; exit 1; }
+# The memory settings with which the launcher runs it.
+GLIBC_TUNABLES=$(sed -n 's/^tunables=//p' "$top/pinsilver")
+export GLIBC_TUNABLES
 work=$(mktemp -d)
 trap 'rm -rf "$work"' EXIT
 

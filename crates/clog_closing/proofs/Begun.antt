@@ -48,7 +48,7 @@ use Rattle.clog_segments.specs.OnDisk.{file_on}
 use Rattle.clog_segments.specs.StoreFolder.{Deeds, IsSound, StoreLog, log_of}
 use Rattle.clog_segments.specs.StoreOrder.{AreOrdered, AreSettled}
 use Rattle.clog_segments.specs.StoreState.{HasGrown, HasOrdered, StoreState, deeds_by}
-use Rattle.clog_store.proofs.OrderGoes.{ordered_appended}
+use Rattle.clog_due.proofs.OrderGoes.{ordered_appended}
 use Rattle.clog_applied.specs.Appended.{IsAppended}
 use Rattle.clog_applied.specs.Closed.{IsAnyFile}
 use Rattle.clog_applied.specs.Early.{AreInOrder, AreRunChanges, ComeLast}

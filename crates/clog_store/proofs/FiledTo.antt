@@ -26,7 +26,7 @@ use Rattle.std.proofs.lemmas.List.{get_or-set_other, get_or-set_same, take_more}
 use Rattle.clog_base.specs.declared.position.Key.{Key}
 use Rattle.path_core.specs.Keeper.{PutFile, upper_from}
 use Rattle.clog_segments.specs.declared.publishing.Published.{Published}
-use Rattle.clog_store.specs.Dropping.{IsPublished}
+use Rattle.clog_due.specs.Dropping.{IsPublished}
 use Rattle.clog_store.proofs.FolderPuts.{upper_push}
 
 -- with one more of a list of files

@@ -14,7 +14,7 @@ use Rattle.clog_folder.proofs.Listed.{held_of}
 use Rattle.clog_segments.specs.Named.{sequence_limit}
 use Rattle.clog_segments.specs.Opened.{IsOpened, IsRecovered}
 use Rattle.clog_segments.specs.StoreFolder.{HoldsStore, IsBegun, fresh_log, no_deeds}
-use Rattle.clog_store.proofs.Cuts.{not_cut}
+use Rattle.clog_due.proofs.Cuts.{not_cut}
 use Rattle.clog_segments.proofs.FolderReads.{absent_or_held}
 
 module _ (before now : Files) (base moment : ℕ) (opened : IsOpened before moment base now) where

@@ -65,7 +65,7 @@ use Rattle.clog_segments.specs.StoreFolder.{
   name_of,
   with_file,
 }
-use Rattle.clog_store.proofs.Cuts.{cut_of, only_cut}
+use Rattle.clog_due.proofs.Cuts.{cut_of, only_cut}
 use Rattle.clog_segments.proofs.FolderReads.{absent_or_held, one_or_none}
 use Rattle.clog_segments.proofs.FolderNames.{AreBelow, table_elsewhere}
 use Rattle.clog_segments.proofs.NextNames.{next_taken}

@@ -45,9 +45,9 @@ use Rattle.clog_segments.specs.Life.{State}
 use Rattle.clog_segments.specs.NoteLog.{BeginsFrom, HasLog, IsNoteLog, NoteState}
 use Rattle.clog_store.specs.NoteSteps.{Enters}
 use Rattle.clog_segments.specs.Notes.{place_of}
-use Rattle.clog_store.specs.StoreDrops.{AreEarlier}
+use Rattle.clog_due.specs.StoreDrops.{AreEarlier}
 use Rattle.clog_store.proofs.NoteLent.{starts_above, tile_starts}
-use Rattle.clog_store.proofs.NotePlaced.{placed_good}
+use Rattle.clog_due.proofs.NotePlaced.{placed_good}
 
 module _ {D : Type 0} (s : NoteState D) (h : Holding) (closed : ℕ) (is : IsNoteLog s)
     (has : HasLog s h) (o : ℕ) (due : IsDue h closed o) where

@@ -45,7 +45,7 @@ use Rattle.path_core.specs.Keeper.{Holding, MayDrop}
 use Rattle.clog_segments.specs.Discards.{all_go_by, next_by}
 use Rattle.clog_segments.specs.Life.{State}
 use Rattle.clog_segments.specs.NoteLog.{IsNoteLog, NoteState}
-use Rattle.clog_store.specs.StoreDrops.{AreDueIn, AreEarlier, HasBeside}
+use Rattle.clog_due.specs.StoreDrops.{AreDueIn, AreEarlier, HasBeside}
 use Rattle.clog_segments.specs.StoreFolder.{Deeds, IsPast, StoreLog, log_of, with_first_gone}
 use Rattle.clog_segments.specs.StoreOrder.{AreOrdered, IsFiledWhole, IsWholeIn, StandsBehind}
 use Rattle.clog_segments.specs.StoreState.{
@@ -56,15 +56,15 @@ use Rattle.clog_segments.specs.StoreState.{
   deeds_by,
   holding_of,
 }
-use Rattle.clog_store.proofs.Cuts.{
+use Rattle.clog_due.proofs.Cuts.{
   AreQuiet,
   cut_of,
   put_still,
   quiet_appends,
   quiet_publishes,
 }
-use Rattle.clog_store.proofs.DroppedLists.{first_dropped, in_front}
-use Rattle.clog_store.proofs.GoneCuts.{
+use Rattle.clog_due.proofs.DroppedLists.{first_dropped, in_front}
+use Rattle.clog_due.proofs.GoneCuts.{
   first_go_by,
   first_listed,
   go_cut,
@@ -75,8 +75,8 @@ use Rattle.clog_store.proofs.GoneCuts.{
   quiet_first,
   remove_at,
 }
-use Rattle.clog_store.proofs.NotePast.{past_of}
-use Rattle.clog_store.proofs.OrderGoes.{ordered_on}
+use Rattle.clog_due.proofs.NotePast.{past_of}
+use Rattle.clog_due.proofs.OrderGoes.{ordered_on}
 use Rattle.clog_store.proofs.OrderPuts.{all_grown}
 use Rattle.clog_store.proofs.OrderSyncs.{settled_same}
 use Rattle.clog_store.proofs.StoreBeside.{grown_beside}

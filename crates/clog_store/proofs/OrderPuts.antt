@@ -64,9 +64,9 @@ use Rattle.clog_segments.specs.StoreState.{
   holding_of,
   put_of,
 }
-use Rattle.clog_store.proofs.Cuts.{only_cut, put_one}
-use Rattle.clog_store.proofs.NotePast.{note_appended}
-use Rattle.clog_store.proofs.OrderGoes.{ordered_on}
+use Rattle.clog_due.proofs.Cuts.{only_cut, put_one}
+use Rattle.clog_due.proofs.NotePast.{note_appended}
+use Rattle.clog_due.proofs.OrderGoes.{ordered_on}
 use Rattle.clog_store.proofs.OrderSyncs.{settled_by, settled_same}
 use Rattle.clog_store.proofs.StoreBeside.{grown_beside}
 

@@ -12,6 +12,8 @@ use Rattle.std.proofs.Common.{
   ◌∷◌,
   ◌++◌,
   Option,
+  Some,
+  None,
   refl,
   sym,
   ◌∙◌,
@@ -47,6 +49,9 @@ use Rattle.clog_segments.specs.NoteLog.{
 }
 use Rattle.clog_segments.specs.StoreOrder.{AreSettled, IsSettled}
 use Rattle.clog_segments.specs.StoreState.{StoreState, holding_of}
+use Rattle.clog_due.specs.declared.counted.Counted.{Counted}
+use Rattle.clog_due.specs.Counting.{IsCounted, IsCountedIn}
+use Rattle.clog_due.proofs.HeldSegments.{with_notes}
 use Rattle.clog_store.proofs.NoteLent.{run_above, starts_above, tile_starts}
 use Rattle.clog_store.proofs.NoteSynced.{run_writes}
 
@@ -272,3 +277,13 @@ module _ {D : Type 0} (files : D → Option Files) (changes : D → Option (List
   synced_goes (Err fault) ok err told now leaves =
       goes_for_none s n leaves.more (ap (λ (x : NoteState D). x.base) err.log_is) leaves.past
       (ap (λ (x : NoteState D). x.logged) err.log_is)
+
+-- ---- what was counted
+
+pub counted_synced : {D : Type 0} (s : StoreState D) (n : NoteState D) (o : Option Counted)
+    → GoesOnWith s n → IsCountedIn s.notes.logged s.files s.dropped o
+    → IsCountedIn n.logged s.files s.dropped o
+counted_synced s n None goes is = tt
+counted_synced s n (Some c) goes is =
+    subst (λ (l : List EntryNote). IsCounted l s.files s.dropped c) (sym goes.logged_is)
+    (with_notes s.notes.logged s.files s.dropped c goes.run goes.apart is)

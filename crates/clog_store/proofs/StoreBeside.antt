@@ -37,7 +37,7 @@ use Rattle.clog_segments.specs.Discarding.{DropsBy}
 use Rattle.clog_segments.specs.Discards.{all_go_by, goes_by, names_by, next_by}
 use Rattle.clog_segments.specs.Grows.{AreAppends, IsGrown}
 use Rattle.clog_segments.specs.Life.{State}
-use Rattle.clog_store.specs.StoreDrops.{dropped_by, named_by}
+use Rattle.clog_due.specs.StoreDrops.{dropped_by, named_by}
 use Rattle.clog_segments.specs.StoreState.{HasAppended, HasGrown}
 use Rattle.clog_store.proofs.NoteGrows.{added_both, nothing_added}
 

@@ -80,7 +80,7 @@ use Rattle.clog_segments.specs.StoreState.{
   holding_of,
   put_of,
 }
-use Rattle.clog_store.proofs.FolderDue.{true_here}
+use Rattle.clog_due.proofs.FolderDue.{true_here}
 use Rattle.clog_store.proofs.FolderPuts.{holds_next}
 use Rattle.clog_segments.proofs.NextNames.{held_next}
 use Rattle.clog_segments.proofs.FolderReads.{absent_or_held}

@@ -101,10 +101,10 @@ use Rattle.clog_segments.specs.StoreState.{
   store_over,
   told_as,
 }
-use Rattle.clog_store.proofs.Cuts.{put_none}
+use Rattle.clog_due.proofs.Cuts.{put_none}
 use Rattle.clog_store.proofs.FolderFails.{all_stay, but_none, no_row}
 use Rattle.clog_store.proofs.NoteGrows.{added_both, appends_both, no_appends, nothing_added}
-use Rattle.clog_store.proofs.OrderGoes.{ordered_appended}
+use Rattle.clog_due.proofs.OrderGoes.{ordered_appended}
 use Rattle.clog_store.proofs.OrderSyncs.{GoesOnWith}
 
 -- ---- faults

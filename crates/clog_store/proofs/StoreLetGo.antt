@@ -66,7 +66,7 @@ use Rattle.clog_segments.specs.Discards.{
 use Rattle.clog_segments.specs.Life.{State}
 use Rattle.clog_segments.specs.NoteLog.{IsNoteLog, NoteState}
 use Rattle.clog_segments.specs.Stepped.{HasLogCause, Passes, StopsBy}
-use Rattle.clog_store.specs.StoreDrops.{
+use Rattle.clog_due.specs.StoreDrops.{
   AreDueIn,
   AreEarlier,
   HasBeside,
@@ -96,7 +96,7 @@ use Rattle.clog_segments.specs.StoreState.{
   deeds_by,
   holding_of,
 }
-use Rattle.clog_store.proofs.DroppedLists.{
+use Rattle.clog_due.proofs.DroppedLists.{
   archived_is,
   archived_none,
   both_none,
@@ -107,9 +107,9 @@ use Rattle.clog_store.proofs.DroppedLists.{
   next_left,
   none_named,
 }
-use Rattle.clog_store.proofs.FolderDue.{covered_due, may_be_dropped}
-use Rattle.clog_store.proofs.FolderGoes.{droppable_there, holds_first_gone}
-use Rattle.clog_store.proofs.GoneCuts.{made_by}
+use Rattle.clog_due.proofs.FolderDue.{covered_due, may_be_dropped}
+use Rattle.clog_due.proofs.FolderGoes.{droppable_there, holds_first_gone}
+use Rattle.clog_due.proofs.GoneCuts.{made_by}
 use Rattle.clog_segments.proofs.Lived.{at_told, told_before}
 use Rattle.clog_store.proofs.NotePasses.{passes_same}
 use Rattle.clog_store.proofs.OrderDrops.{order_gone}

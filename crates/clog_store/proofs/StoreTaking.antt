@@ -27,7 +27,7 @@ use Rattle.clog_segments.specs.declared.written.StoreFault.{StoreFault}
 use Rattle.clog_segments.specs.declared.written.StoreFault.TheVariants.{Stopped, OutOfMemory}
 use Rattle.clog_segments.specs.Life.{State}
 use Rattle.clog_segments.specs.Stepped.{IsQuiet}
-use Rattle.clog_store.specs.StoreDrops.{AreDueIn, HasLetGo}
+use Rattle.clog_due.specs.StoreDrops.{AreDueIn, HasLetGo}
 use Rattle.clog_segments.specs.StoreState.{HasMoved, StoreState, deeds_by, store_over, told_as}
 use Rattle.clog_store.specs.StoreTakes.{
   GoesOnTaking,
@@ -37,9 +37,9 @@ use Rattle.clog_store.specs.StoreTakes.{
   TakesMore,
   TakesNext,
 }
-use Rattle.clog_store.proofs.DroppedLists.{first_dropped}
+use Rattle.clog_due.proofs.DroppedLists.{first_dropped}
 use Rattle.clog_store.proofs.NoteTakes.{takes_behind, takes_dropped, takes_less, takes_moved}
-use Rattle.clog_store.proofs.StoreDropped.{let_go_on}
+use Rattle.clog_due.proofs.StoreDropped.{let_go_on}
 
 -- at its opening it stands in its first segment
 pub takes_opened : {D : Type 0} (log : State D) (sizes : Sizes) (archives : Bool)

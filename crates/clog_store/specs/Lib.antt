@@ -1,10 +1,4 @@
-pub mod Counting
-pub mod Dropping
-pub mod HullRows
 pub mod NoteSteps
-pub mod StoreDrops
 pub mod StoreNames
 pub mod StoreTakes
 pub mod WorkedNames
-pub mod WorkedOrder
-pub mod WorkedTables

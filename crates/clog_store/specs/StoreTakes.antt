@@ -4,7 +4,7 @@ use Rattle.std.specs.Prelude.{◌≡◌, ◌⊎◌, ℕ, ◌+◌, false, List, d
 use Rattle.path_core.specs.declared.note.EntryNote.{EntryNote}
 use Rattle.path_core.specs.Keeper.{Holding, IsDue, MayWrite}
 use Rattle.clog_segments.specs.NoteLog.{BeginsFrom, HasLog, NoteState}
-use Rattle.clog_store.specs.StoreDrops.{HasBeside}
+use Rattle.clog_due.specs.StoreDrops.{HasBeside}
 use Rattle.clog_segments.specs.StoreState.{StoreState}
 
 -- ---- a log of notes

@@ -1,5 +1,6 @@
 //! Laws of a folder that a store writes: it holds what the store's keeper has in mind, so that what
-//! may be put is true of it and what is due may go; and each call leaves such a folder.
+//! may be put is true of it; and it stays so from the opening on, over a sync, in a later segment,
+//! and with a table file more. That it stays so while segments go is said in `clog_due`.
 ghost use Rattle.std.specs.Prelude.{
   ◌≡◌,
   ◌+◌,
@@ -9,7 +10,6 @@ ghost use Rattle.std.specs.Prelude.{
   ◌++◌,
   ℕ,
   Bool,
-  true,
   List,
   [],
   length,
@@ -23,7 +23,6 @@ ghost use Rattle.clog_spec.specs.Names.{segment_name_of, table_name_of};
 ghost use Rattle.clog_base.specs.declared.cell.Table.{Table as table_number};
 ghost use Rattle.clog_base.specs.Positions.{ordinal_of, position_of};
 ghost use Rattle.clog_disk.specs.Files.{Files, bytes_at};
-ghost use Rattle.clog_crash.specs.Flush.{IsCovered};
 ghost use Rattle.clog_crash.specs.Folder.{IsBase};
 ghost use Rattle.clog_crash.specs.Log.{Write};
 ghost use Rattle.clog_crash.specs.Rest.{settled};
@@ -31,8 +30,6 @@ ghost use Rattle.clog_crash.specs.Sections.{segment_bytes};
 ghost use Rattle.path_core.specs.declared.note.EntryNote.{EntryNote as entry_note};
 ghost use Rattle.path_core.specs.Keys.{after, marker_size};
 ghost use Rattle.path_core.specs.Keeper.{Holding, IsDue, MayPublish, PutFile};
-ghost use Rattle.clog_store.specs.Dropping.{AreDue};
-ghost use Rattle.clog_segments.specs.Discards.{all_gone_at, first_gone_at};
 ghost use Rattle.clog_segments.specs.Life.{past_with};
 ghost use Rattle.clog_segments.specs.Named.{HasSequence, OneHas};
 ghost use Rattle.clog_segments.specs.NoteLog.{
@@ -53,7 +50,6 @@ ghost use Rattle.clog_segments.specs.StoreFolder.{
   HoldsStore,
   IsNextFile,
   IsSound,
-  MayBeDropped,
   PlacedFile,
   StoreLog,
   deeds_of,
@@ -62,8 +58,6 @@ ghost use Rattle.clog_segments.specs.StoreFolder.{
   name_of,
   no_deeds,
   with_file,
-  with_first_gone,
-  with_gone,
 };
 
 use clog_disk::Disk;
@@ -82,25 +76,6 @@ pub fn an_opened_folder_is_a_stores()
     ensures { (before now : Files) (moment base : ℕ) (archives : Bool)
         → IsOpened before moment base now
         → HoldsStore now (fresh_log base) (no_deeds archives) now }
-{}
-
-/// Once segments have gone the folder is that of the store which has dropped them.
-pub fn a_folder_without_dropped_segments_is_a_stores()
-    ensures { (first f : Files) (log : StoreLog) (deeds : Deeds) (ordinals : List ℕ)
-        → HoldsStore first log deeds f → ((w : Write) → Contains log.past w → w.id < log.id)
-        → log.id < 2 ^ 63 → MayBeDropped log deeds ordinals
-        → HoldsStore first log (with_gone deeds ordinals)
-        (all_gone_at deeds.archives log.base ordinals f) }
-{}
-
-/// So it is where the first of them have gone, and the next one has perhaps got its archive name.
-pub fn a_folder_with_some_dropped_is_a_stores()
-    ensures { (first f : Files) (log : StoreLog) (deeds : Deeds) (ordinals : List ℕ) (n : ℕ)
-        (is_named : Bool) → HoldsStore first log deeds f
-        → ((w : Write) → Contains log.past w → w.id < log.id) → log.id < 2 ^ 63
-        → MayBeDropped log deeds ordinals → (is_named ≡ true → deeds.archives ≡ true)
-        → HoldsStore first log (with_first_gone deeds ordinals n is_named)
-        (first_gone_at deeds.archives log.base ordinals n is_named f) }
 {}
 
 /// Once a table file has come the folder is that of the store which has put it.
@@ -131,22 +106,6 @@ pub fn what_a_store_may_publish_is_true<D: Disk>()
         → MayPublish h put → finmap.get f (table_name_of put.table sequence) ≡ None
         → EndsWithin s.log.id (take s.log.synced s.log.sections) (position_of s.base put.upper)
         → IsTrueHere f s.log.id (take s.log.synced s.log.sections) (file_on s.base put) sequence }
-{}
-
-/// Older segments of a store that are due may be dropped.
-pub fn due_segments_of_a_store_may_be_dropped<D: Disk>()
-    ensures { (first f : Files) (s : NoteState D) (h : Holding) (closed : ℕ) (ordinals : List ℕ)
-        → HoldsStore first (log_of s) (deeds_of h) f → IsSound s.log → IsNoteLog s → HasLog s h
-        → AreDue h closed ordinals → ((o : ℕ) → Contains ordinals o → s.base + o < s.log.id)
-        → MayBeDropped (log_of s) (deeds_of h) ordinals }
-{}
-
-/// Table files stand for all their cells.
-pub fn due_segments_of_a_store_are_covered<D: Disk>()
-    ensures { (first f : Files) (s : NoteState D) (h : Holding) (closed o : ℕ)
-        → HoldsStore first (log_of s) (deeds_of h) f → IsSound s.log → IsNoteLog s → HasLog s h
-        → IsDue h closed o → s.base + o < s.log.id
-        → IsCovered f s.log.id (take s.log.synced s.log.sections) (s.base + o) }
 {}
 
 /// Where a store's log goes on in a later segment, the folder is its still.

@@ -1,8 +1,10 @@
 //! A log of notes: it makes the entries lasting that it is lent, in sections over segments, and
 //! keeps them in mind. Its sections hold just those notes, each at its place (`IsNoteLog`).
 //!
-//! After a sync that was refused for memory it keeps copies of what it was lent, since some of it
-//! may stand in its sections: the next sync begins with these and goes on behind what was written.
+//! What it is lent moves into the log once it lasts. After a sync that was refused all of it is the
+//! caller's still, and some of it may stand in the sections: the log keeps in mind in which
+//! segments these notes are, and for contracts which they are (`Kept`); the next sync begins with
+//! them and goes on behind what was written.
 ghost use Rattle.std.specs.Prelude.{
   ◌≡◌,
   ◌↔◌,
@@ -18,6 +20,7 @@ ghost use Rattle.std.specs.Prelude.{
   false,
   length,
   true,
+  vec_capacity,
 };
 ghost use Rattle.clog_base.specs.Positions.{ordinal_of};
 ghost use Rattle.clog_disk.specs.Images.{IsLater};
@@ -44,8 +47,8 @@ mod going;
 mod putting;
 mod telling;
 
-use crate::note_order::{drop_front, part_at};
-use crate::note_sections::copies_of;
+use crate::kept::Kept;
+use crate::note_order::{give_back, move_behind, part_at};
 use crate::note_writing::write_all;
 use clog_base::{Key, Sizes};
 use clog_disk::Disk;
@@ -54,6 +57,7 @@ use path_core::EntryNote;
 use std::alloc::Global;
 use std::marker::Model;
 use std::snapshot::Snapshot;
+use std::thread::Threads;
 
 /// A log of notes over a disk (what Cassandra's `AbstractCommitLogSegmentManager` writes).
 #[derive(Drop)]
@@ -66,8 +70,8 @@ pub struct NoteLog<D: Disk> {
     /// The start of the last sync's marker, 0 before the first.
     synced: u64,
     logged: Vec<EntryNote>,
-    /// Copies of the notes of a sync that was refused.
-    kept: Vec<EntryNote>,
+    /// The notes of a sync that was refused.
+    kept: Kept,
     /// How many of these stand in the log's sections.
     written: usize,
 }
@@ -83,7 +87,7 @@ impl<D: Disk> Model for NoteLog<D> {
       sizes = s.sizes;
       synced = s.synced;
       logged = s.logged.items;
-      kept = s.kept.items;
+      kept = s.kept;
       written = s.written;
     } };
 
@@ -93,7 +97,7 @@ impl<D: Disk> Model for NoteLog<D> {
       sizes = s.sizes;
       synced = s.synced;
       logged = s.logged.items;
-      kept = s.kept.items;
+      kept = s.kept;
       written = s.written;
     }) };
 }
@@ -132,17 +136,21 @@ impl<D: Disk> NoteLog<D> {
             sizes,
             synced: 0,
             logged: Vec::new(alloc),
-            kept: Vec::new(alloc),
+            kept: Kept::none(alloc),
             written: 0,
         }
     }
 
-    // Logs the run. What was written of it is kept where this is refused.
-    fn log_run(&mut self, run: Vec<EntryNote>, upto: u64) -> Result<(), StoreFault>
+    // Logs the run, which moves into the log. Where this is refused it is there still; what was
+    // begun is kept in mind.
+    fn log_run(&mut self, run: &mut Vec<EntryNote>, upto: u64) -> Result<(), StoreFault>
         requires runs { self.old.log.is_stopped ≡ false }
-        requires may { MayRun self.old upto run.items }
-        ensures logs { OnOk result (Logs self.old self.new upto run.items) }
-        ensures refused { OnErr result (LogsNot self.old self.new run.items) }
+        requires may { MayRun self.old upto run.old.items }
+        ensures logs { OnOk result (Logs self.old self.new upto run.old.items) }
+        ensures refused { OnErr result (LogsNot self.old self.new run.old.items) }
+        ensures moved { OnOk result (run.new.items ≡ []) }
+        ensures there { OnErr result (run.new.items ≡ run.old.items) }
+        ensures room { vec_capacity run.new ≡ vec_capacity run.old }
         ensures all { OnOk result (self.new.log.synced ≡ length self.new.log.sections) }
         ensures goes { GoesOn D.files D.moment D.since D.leaves D.read_at D.lasted_at self.old.log
             self.new.log }
@@ -152,18 +160,20 @@ impl<D: Disk> NoteLog<D> {
             (D.faults self.new.log.disk) result }
         ensures stops { StopsBy self.new.log.is_stopped result }
     {
+        let kept = Kept::of(self.alloc, run)?;
         self.logged.reserve(run.len())?;
-        self.kept = run;
-        let seen = Snapshot::of(&self.kept);
+        self.kept = kept;
+        let seen = Snapshot::of(&*run);
         write_all(
             self.alloc,
             &mut self.log,
             self.base,
-            &self.kept,
+            run.as_slice(),
             &seen,
             &mut self.written,
         )?;
-        self.logged.append(&mut self.kept)?;
+        move_behind(&mut self.logged, run);
+        self.kept = Kept::none(self.alloc);
         self.written = 0;
         self.synced = upto;
         Ok(())
@@ -183,8 +193,8 @@ impl<D: Disk> NoteLog<D> {
     /// Makes all pending notes up to a key lasting, and keeps the others pending. Where it is
     /// refused all are pending; the sections that the disk took stay, and the next call goes on
     /// behind them. Notes of a segment that the log has left for no note are refused like those for
-    /// which there is no memory. Unless the disk has failed, the log takes what comes next still, if
-    /// it did so before (`takes`).
+    /// which there is no memory. Unless the disk has failed, the log takes what comes next still,
+    /// if it did so before (`takes`).
     pub fn sync(&mut self, pending: &mut Vec<EntryNote>, upto: Key) -> Result<(), StoreFault>
         requires { MayLog self.old upto.0 pending.old.items }
         ensures syncs { OnOk result (HasSynced self.old self.new upto.0 pending.old.items
@@ -214,13 +224,14 @@ impl<D: Disk> NoteLog<D> {
             return Err(StoreFault::Stopped);
         }
         let count = part_at(pending, upto.0);
-        let run = copies_of(self.alloc, &pending[..count])?;
-        if !self.may_begin(&run) {
+        let mut others = pending.split_off(count)?;
+        if !self.may_begin(pending) {
+            move_behind(pending, &mut others);
             return Err(StoreFault::OutOfMemory);
         }
-        self.log_run(run, upto.0)?;
-        drop_front(pending, count);
-        Ok(())
+        let outcome = self.log_run(pending, upto.0);
+        move_behind(pending, &mut others);
+        outcome
     }
 
     /// The id of the segment of ordinal 0.
@@ -248,11 +259,23 @@ impl<D: Disk> NoteLog<D> {
         self.log.fault_count()
     }
 
-    /// The log of sections in which its notes stand.
-    pub fn into_log(self) -> SectionLog<D>
+    /// The log of sections in which its notes stand. The notes go, in a thread for which nobody
+    /// waits where they are many and one can be started.
+    pub fn into_log<R: Threads>(self, rt: &R) -> SectionLog<D>
         ensures log { result ≡ self.log }
         ensures notes { IsNoteLog self }
     {
-        self.log
+        let NoteLog {
+            alloc: _,
+            log,
+            base: _,
+            sizes: _,
+            synced: _,
+            logged,
+            kept: _,
+            written: _,
+        } = self;
+        give_back(rt, logged);
+        log
     }
 }

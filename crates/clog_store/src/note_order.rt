@@ -1,12 +1,29 @@
-//! The pending notes that a sync writes: those up to a key, in the order of the log.
-ghost use Rattle.std.specs.Prelude.{◌≡◌, ◌≤◌, ◌<◌, ℕ, drop, get_or, length, take};
+//! The pending notes that a sync writes: those up to a key, in the order of the log; and how notes
+//! go.
+ghost use Rattle.std.specs.Prelude.{
+  ◌≡◌,
+  ◌++◌,
+  ◌+◌,
+  ◌≤◌,
+  ◌<◌,
+  ℕ,
+  [],
+  drop,
+  get_or,
+  length,
+  take,
+  vec_capacity,
+};
 ghost use Rattle.std.specs.List.Sorted.{IsNonDecreasingBy, IsPermutation};
 ghost use Rattle.path_core.specs.declared.note.EntryNote.{EntryNote};
 ghost use Rattle.path_core.specs.Keeper.{IsParted};
 
-use crate::note_sections::copies_of;
 use path_core::EntryNote;
-use std::alloc::{AllocError, Global};
+use std::thread;
+use std::thread::Threads;
+
+// Fewer notes than these go at once.
+const LEAST_BESIDE: usize = 4096;
 
 // How many notes, in the order of their ends, end at or below a key.
 fn count_up_to(notes: &[EntryNote], upto: u64) -> usize
@@ -23,10 +40,12 @@ fn count_up_to(notes: &[EntryNote], upto: u64) -> usize
     count
 }
 
-/// Brings the notes into the order of the log, and answers how many end at or below a key.
+/// Brings the notes into the order of the log, and answers how many end at or below a key. A path
+/// lends them in order, but a keeper is not promised that: notes in order cost one look at each.
 pub(crate) fn part_at(pending: &mut Vec<EntryNote>, upto: u64) -> usize
     ensures within { result ≤ length pending.new.items }
     ensures same { IsPermutation pending.old.items pending.new.items }
+    ensures room { length pending.new.items ≤ vec_capacity pending.new }
     ensures parted { IsParted upto pending.old.items (take result pending.new.items)
         (drop result pending.new.items) }
 {
@@ -34,11 +53,23 @@ pub(crate) fn part_at(pending: &mut Vec<EntryNote>, upto: u64) -> usize
     count_up_to(pending, upto)
 }
 
-/// Takes so many away from the front.
-pub(crate) fn drop_front(pending: &mut Vec<EntryNote>, count: usize)
-    requires { count ≤ length pending.old.items }
-    ensures { pending.new.items ≡ drop count pending.old.items }
+/// Moves notes behind others, for which there is room.
+pub(crate) fn move_behind(notes: &mut Vec<EntryNote>, more: &mut Vec<EntryNote>)
+    requires { length notes.old.items + length more.old.items ≤ vec_capacity notes.old }
+    ensures all { notes.new.items ≡ notes.old.items ++ more.old.items }
+    ensures none { more.new.items ≡ [] }
+    ensures room { vec_capacity more.new ≡ vec_capacity more.old }
 {
-    pending.rotate_left(count);
-    pending.truncate(pending.len() - count);
+    if notes.append(more).is_err() {
+        unreachable!()
+    }
+}
+
+/// The notes go: where they are many in a thread of their own, if it can be started, for which
+/// nobody waits.
+pub(crate) fn give_back<R: Threads>(rt: &R, notes: Vec<EntryNote>) {
+    if notes.len() < LEAST_BESIDE {
+        return;
+    }
+    drop(thread::spawn(rt, move || drop(notes)));
 }

@@ -10,7 +10,7 @@ ghost use Rattle.clog_segments.specs.NoteSections.{
 };
 
 use crate::next::front_of;
-use clog_base::{Bytes, FRONT_SIZE, MARKER_SIZE};
+use clog_base::{FRONT_SIZE, MARKER_SIZE};
 use clog_segments::{Payloads, Written};
 use path_core::EntryNote;
 use std::alloc::{AllocError, Global};
@@ -46,30 +46,6 @@ fn push_entries(bytes: &mut Vec<u8>, notes: &[EntryNote]) -> Result<(), AllocErr
         bytes.extend_from_slice(note.bytes.as_slice())?;
     }
     Ok(())
-}
-
-fn copy_of(alloc: Global, note: &EntryNote) -> Result<EntryNote, AllocError>
-    ensures { IfOk result (λ copy. copy ≡ note.now) }
-{
-    let bytes = note.bytes.as_slice().to_vec(alloc)?;
-    Ok(EntryNote {
-        start: note.start,
-        end: note.end,
-        tables: note.tables,
-        line: note.line,
-        writer: note.writer,
-        bytes: Bytes::new(bytes),
-    })
-}
-
-pub(crate) fn copies_of(alloc: Global, notes: &[EntryNote]) -> Result<Vec<EntryNote>, AllocError>
-    ensures { IfOk result (λ copies. copies.items ≡ notes.now) }
-{
-    let mut copies = Vec::with_capacity(alloc, notes.len())?;
-    for note in notes {
-        copies.push(copy_of(alloc, note)?)?;
-    }
-    Ok(copies)
 }
 
 // ---- the next section

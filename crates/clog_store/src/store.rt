@@ -10,7 +10,6 @@
 //! counted no fault since the opening; once it has failed, the folder does but for one name. What
 //! it has counted is of its first entries, files and dropped segments (`IsCountedIn`).
 ghost use Rattle.std.specs.Prelude.{◌≡◌, ◌<◌, ◌^◌};
-ghost use Rattle.clog_store.specs.Dropping.{IsPublished};
 ghost use Rattle.clog_segments.specs.NamesLast.{NamesLast};
 ghost use Rattle.clog_segments.specs.StoreState.{told_as};
 
@@ -24,43 +23,14 @@ mod putting;
 mod syncing;
 mod telling;
 
-use crate::counted::Counted;
 use crate::note_log::NoteLog;
-use clog_cells::CellMap;
 use clog_disk::Disk;
-use clog_segments::{Published, StoreFault};
+use clog_due::{Counted, StoredFile};
+use clog_segments::StoreFault;
 pub use crossing::a_store_crosses_threads;
 use path_core::KeeperFault;
 use std::marker::Model;
 use std::snapshot::Snapshot;
-
-/// A table file that a store has put: its interval, and its cells for contracts alone.
-#[derive(Drop)]
-pub struct StoredFile {
-    interval: Published,
-    cells: Snapshot<CellMap>,
-}
-
-impl Model for StoredFile {
-    ghost use Rattle.path_core.specs.Keeper.{PutFile};
-
-    ghost Value = { PutFile };
-
-    ghost view = { λ f. record {
-      table = f.interval.table.0;
-      lower = f.interval.lower.0;
-      upper = f.interval.upper.0;
-      cells = f.cells.value;
-    } };
-}
-
-impl StoredFile {
-    pub(crate) fn interval(&self) -> Published
-        ensures { IsPublished self.now result }
-    {
-        self.interval
-    }
-}
 
 /// A store over a disk.
 #[derive(Drop)]
@@ -83,7 +53,7 @@ pub struct Store<D: Disk> {
 
 impl<D: Disk> Model for Store<D> {
     ghost use Rattle.std.specs.Prelude.{◌≡◌};
-    ghost use Rattle.clog_store.specs.Counting.{IsCountedIn};
+    ghost use Rattle.clog_due.specs.Counting.{IsCountedIn};
     ghost use Rattle.clog_segments.specs.NamesLast.{NamesLast};
     ghost use Rattle.clog_segments.specs.StoreState.{IsStore, StoreState};
 

@@ -10,6 +10,7 @@ use clog_store::Store;
 use path_core::KeeperFault;
 use std::alloc::Global;
 use std::test::Fail;
+use std::thread::Threads;
 
 // Segment 1000 with one entry, from 28 to 60: the deletion of key `ab` and column `cd` in table 0.
 const SEGMENT: [u8; 60] = [
@@ -85,7 +86,7 @@ fn a_store_with_nothing_pending_writes_nothing(rt: HostRuntime) -> Result<(), Fa
     assert_eq!(rt; store.base(), 1001);
     let mut pending = Vec::new(rt.alloc());
     assert!(rt; store.make_lasting(&mut pending, Key(0)).is_ok());
-    let mut disk = store.into_disk();
+    let mut disk = store.into_disk(&rt);
     assert_eq!(rt;
         disk.list()?.as_slice(),
         [table_name(Table(0), 1)].as_slice()
@@ -116,7 +117,7 @@ fn a_store_without_table_files_drops_nothing(rt: HostRuntime) -> Result<(), Fail
         return Err(Fail::new("no store"));
     };
     assert_eq!(rt; store.drop_due(4).ok(), Some(0));
-    let mut disk = store.into_disk();
+    let mut disk = store.into_disk(&rt);
     assert_eq!(rt;
         disk.list()?.as_slice(),
         [table_name(Table(0), 1)].as_slice()
@@ -138,7 +139,7 @@ fn a_store_puts_a_file_behind_those_of_its_table(rt: HostRuntime) -> Result<(), 
     // Nothing was logged since, so the file of what there is has no cells.
     let cells = CellMap::new(rt.alloc());
     assert!(rt; store.put_table(Table(0), Key(0), Key(28), &cells).is_ok());
-    let mut disk = store.into_disk();
+    let mut disk = store.into_disk(&rt);
     assert_eq!(rt;
         disk.list()?.as_slice(),
         [table_name(Table(0), 1), table_name(Table(0), 2)].as_slice()
@@ -148,7 +149,7 @@ fn a_store_puts_a_file_behind_those_of_its_table(rt: HostRuntime) -> Result<(), 
 
 // Where a put is refused since its disk fails at a call: whether the store has stopped, answers so
 // for a drop too, and has made no change.
-fn stays_at(alloc: Global, call: u64) -> Option<bool> {
+fn stays_at<R: Threads>(rt: &R, alloc: Global, call: u64) -> Option<bool> {
     let sizes = Sizes::make(1, 1, 4096, 4)?;
     let mut calls = Vec::new(alloc);
     if calls.push(call).is_err() {
@@ -165,7 +166,7 @@ fn stays_at(alloc: Global, call: u64) -> Option<bool> {
         return None;
     }
     let answer = store.drop_due(4);
-    let disk = store.into_disk();
+    let disk = store.into_disk(rt);
     Some(answer == Err(KeeperFault::Stopped { at_open: 0, now: 1 }) && disk.change_count() == 0)
 }
 
@@ -175,7 +176,7 @@ fn a_stopped_store_changes_nothing(rt: HostRuntime) -> Result<(), Fail> {
     // store.
     let mut has_stopped = false;
     for call in 1..8 {
-        match stays_at(rt.alloc(), call) {
+        match stays_at(&rt, rt.alloc(), call) {
             Some(true) => has_stopped = true,
             Some(false) => return Err(Fail::new("changed")),
             None => {}

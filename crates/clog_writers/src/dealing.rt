@@ -35,25 +35,33 @@ use std::alloc::{AllocError, Global};
 use std::thread::Threads;
 use write_path::Prepared;
 
-// A worker that has no lines.
-fn idle_worker<K>(alloc: Global) -> Worker<K>
-    ensures { (result.writes.items ≡ []) × (result.counts.items ≡ []) }
+// A worker that has no lines, with room for so many, and for so many lines' counts.
+fn idle_worker<K>(alloc: Global, lines: usize, counts: usize) -> Result<Worker<K>, AllocError>
+    ensures { IfOk result (λ w. (w.writes.items ≡ []) × (w.counts.items ≡ [])) }
 {
-    Worker {
+    Ok(Worker {
         seat: None,
-        writes: Vec::new(alloc),
-        counts: Vec::new(alloc),
+        writes: Vec::with_capacity(alloc, lines)?,
+        counts: Vec::with_capacity(alloc, counts)?,
         fault: None,
-    }
+    })
 }
 
-// Workers that have no lines.
-fn idle_crew<K: Keeper + Drop>(alloc: Global, sizes: Sizes) -> Result<Vec<Worker<K>>, AllocError>
+// Workers that have no lines, each with room for its share of so many.
+fn idle_crew<K: Keeper + Drop>(
+    alloc: Global,
+    sizes: Sizes,
+    flush_at: Option<u32>,
+    lines: usize,
+) -> Result<Vec<Worker<K>>, AllocError>
     ensures { IfOk result (λ v. (flush : Option ℕ) → AreDealt sizes flush [] v.items) }
 {
+    let most = lines.div_ceil(usize::from(sizes.writers));
+    let counts = if flush_at.is_some() { most } else { 0 };
     let mut workers = Vec::new(alloc);
     for _ in 0..sizes.writers {
-        workers.push(idle_worker(alloc))?;
+        let worker = idle_worker(alloc, most, counts)?;
+        workers.push(worker)?;
     }
     Ok(workers)
 }
@@ -109,7 +117,7 @@ pub fn deal<T: Threads + Sync, K: Keeper + Drop>(
     ensures { DealsAll sizes flush_at mutations.items result }
 {
     let line_writes = prepare_lines(rt, alloc, sizes, flush_at, mutations)?;
-    let mut workers = idle_crew(alloc, sizes)?;
+    let mut workers = idle_crew(alloc, sizes, flush_at, line_writes.len())?;
     let mut line: u32 = 0;
     for line_write in line_writes {
         line += 1;

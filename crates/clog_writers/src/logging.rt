@@ -107,7 +107,7 @@ fn run_crew<R: Threads + Wait + Sync, K: Keeper + Send + Drop, G: Gate + Sync, C
         workers.as_mut_slice(),
     );
     let fault = end_all(rt, alloc, &path, workers, &mut seats);
-    let (keeper, _end) = path.close(seats);
+    let (keeper, _end) = path.close(rt, alloc, seats);
     (keeper, fault)
 }
 
@@ -154,7 +154,7 @@ pub fn log_shares<
             rt, alloc, path, sizes, syncing, flush_at, gate, clock, workers, handed, room,
         ),
         Err(_) => {
-            let (keeper, _end) = path.close(room);
+            let (keeper, _end) = path.close(rt, alloc, room);
             (keeper, Some(WriteFault::OutOfMemory))
         }
     }

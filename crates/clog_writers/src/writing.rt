@@ -195,5 +195,5 @@ pub fn write_plan<R: Threads + Wait + Sync, D: Disk + Send + Drop, G: Gate + Syn
     let flushing = flush_at.is_some();
     let fault = settle_asked(alloc, &mut store, at_open, flushing, drain, fault);
     let outcome = ended(at_open, store.fault_count(), fault, receipts);
-    (store.into_disk(), outcome)
+    (store.into_disk(rt), outcome)
 }

@@ -25,16 +25,18 @@ ghost use Rattle.path_table.specs.Members.{
   part_of,
   boxes_of,
   returned_of,
-  IsSame,
 };
 
 use crate::bounds::{TableBounds, last_bounds};
+use crate::giving_back::{give_back, put_aside};
 use crate::table::{Member, PathTable};
 use crate::words::LOG;
 use atomic_table::Closed;
-use path_core::Keeper;
+use path_core::{EntryNote, Keeper};
 use path_rule::{Desk, Merge, Slot};
 use std::alloc::{Allocator, Global};
+use std::collections::LinkedList;
+use std::thread::Threads;
 
 impl<K: Keeper, A: Allocator> PathTable<K, A> {
     /// A seat takes in another, which runs no write, holds no turn and has no box: it knows all
@@ -60,13 +62,11 @@ impl<K: Keeper, A: Allocator> PathTable<K, A> {
     }
 }
 
-fn let_go<S: Drop>(value: S) {
-    drop(value);
-}
-
-// The keeper on the desk of a closed table, the log key, and the tables' bounds.
+// The keeper on the desk of a closed table, the log key, and the tables' bounds. What memtables
+// hold goes behind other notes.
 pub(crate) fn keeper_and_log<K: Keeper + Drop>(
     closed: Closed<Slot<K>, Global>,
+    notes: &mut LinkedList<EntryNote>,
 ) -> (K, u64, TableBounds)
     requires full { IsFull closed.words × IsFull closed.slots }
     requires words { 135240 ≤ slots_len closed.words }
@@ -84,7 +84,7 @@ pub(crate) fn keeper_and_log<K: Keeper + Drop>(
     let bounds = last_bounds(&closed);
     let first = closed.take(0);
     for i in 1..closed.slot_count() {
-        let_go(closed.take(i));
+        put_aside(notes, closed.take(i));
     }
     closed.free();
     match first {
@@ -107,8 +107,14 @@ impl<K: Keeper + Drop> PathTable<K, Global> {
     /// of each table the bound below its newest memtable; and what the path was: one run of the
     /// machine, in which each seat's steps are its own, and which ends in a lawful state with that
     /// log key and these bounds, of which the keeper holds exactly what is lasting. Beside its log
-    /// it has what the keeper had for which the table was opened.
-    pub fn finish(self, member: Member<K>) -> (K, u64, TableBounds)
+    /// it has what the keeper had for which the table was opened. What its memtables hold goes, in
+    /// a thread for which nobody waits where it is much and one can be started. It needs no memory.
+    pub fn finish<R: Threads>(
+        self,
+        rt: &R,
+        alloc: Global,
+        member: Member<K>,
+    ) -> (K, u64, TableBounds)
         requires table { (member.seat.table_id ≡ self.table.shared.table_id)
             × (boxes_of member ≡ []) }
         requires all { HasAll self.size.seats member.number (view_of member).returned }
@@ -119,6 +125,9 @@ impl<K: Keeper + Drop> PathTable<K, Global> {
     {
         let PathTable { table, size: _ } = self;
         let Member { seat, number: _ } = member;
-        keeper_and_log(table.close_with(seat))
+        let mut notes = LinkedList::new(alloc);
+        let ended = keeper_and_log(table.close_with(seat), &mut notes);
+        give_back(rt, notes);
+        ended
     }
 }

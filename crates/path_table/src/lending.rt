@@ -4,7 +4,6 @@ ghost use Rattle.std.specs.Prelude.{
   ◌≡◌,
   ◌+◌,
   ◌<◌,
-  ◌≤◌,
   ◌^◌,
   List,
   [],
@@ -14,6 +13,7 @@ ghost use Rattle.std.specs.Prelude.{
   OnOk,
   OnErr,
 };
+ghost use Rattle.std.specs.List.Sorted.{IsNonDecreasingBy, IsPermutation};
 ghost use Rattle.atomic_table.specs.Table.{rest, turned};
 ghost use Rattle.path_core.specs.declared.note.EntryNote.{EntryNote};
 ghost use Rattle.path_core.specs.Keeper.{IsParted, MayWrite, Syncs, SyncRefused};
@@ -59,6 +59,19 @@ fn move_all(
     Ok(())
 }
 
+// Brings notes into the order of the log. Those of one seat are in it already, so a sort that
+// merges runs compares least; where it is refused memory for its buffer, one that takes none does
+// it.
+fn order_by_end(notes: &mut Vec<EntryNote>)
+    ensures same { IsPermutation notes.old.items notes.new.items }
+    ensures sorted { IsNonDecreasingBy (λ (n : EntryNote). n.end.0) notes.new.items }
+{
+    match notes.sort_by_key(|note| note.end.0) {
+        Ok(()) => {}
+        Err(_) => notes.sort_unstable_by_key(|note| note.end.0),
+    }
+}
+
 // Lends the keeper of a desk all that is pending on it, in the order of the log.
 fn lend_pending<K: Keeper>(desk: &mut Desk<K>, upto: u64) -> Result<(), KeeperFault>
     requires { (run left : List EntryNote) → IsParted upto (pending_on desk.old) run left
@@ -76,7 +89,7 @@ fn lend_pending<K: Keeper>(desk: &mut Desk<K>, upto: u64) -> Result<(), KeeperFa
         (K.holds desk.old.keeper).faults) result }
 {
     move_all(&mut desk.lent, &mut desk.gathered)?;
-    desk.lent.sort_unstable_by_key(|note| note.end.0);
+    order_by_end(&mut desk.lent);
     desk.keeper.sync(&mut desk.lent, Key(upto))
 }
 

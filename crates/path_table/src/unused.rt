@@ -10,11 +10,12 @@ use crate::closing::keeper_and_log;
 use crate::table::{Opener, PathTable};
 use path_core::Keeper;
 use std::alloc::Global;
+use std::collections::LinkedList;
 
 impl<K: Keeper + Drop> PathTable<K, Global> {
     /// Closes the table where no seat was handed out, so that no step was made. It answers the
     /// keeper, which holds that nothing is lasting, the log's first key, and key 0 of each table.
-    pub fn finish_unused(self, opener: Opener<K>) -> (K, u64, TableBounds)
+    pub fn finish_unused(self, alloc: Global, opener: Opener<K>) -> (K, u64, TableBounds)
         requires table { opener.seat.table_id ≡ self.table.shared.table_id }
         requires unused { opener.made ≡ 0 }
         ensures ended { EndsUnused (beside_of (K.holds self.table.shared.key.first.value)) self.size
@@ -23,6 +24,8 @@ impl<K: Keeper + Drop> PathTable<K, Global> {
     {
         let PathTable { table, size: _ } = self;
         let Opener { seat, made: _ } = opener;
-        keeper_and_log(table.close_with(seat))
+        // Nobody wrote, so no note comes.
+        let mut none = LinkedList::new(alloc);
+        keeper_and_log(table.close_with(seat), &mut none)
     }
 }

@@ -97,7 +97,7 @@ fn one_write_is_the_whole_history(rt: HostRuntime) -> Result<(), Fail> {
     let Written { start, end, tables } = written;
     assert_eq!(&rt; (start, end, tables), (Key(28), Key(60), 1));
     seats.push(seat)?;
-    let (_keeper, outcome) = path.close(seats);
+    let (_keeper, outcome) = path.close(&rt, alloc, seats);
     assert_eq!(&rt; outcome.end, Key(60));
     Ok(())
 }

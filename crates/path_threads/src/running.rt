@@ -161,7 +161,7 @@ pub fn run_path<R: Threads + Wait + Clock + Sync, K: Keeper + Send + Drop>(
     let Ok(seats) = seats_of(&path, alloc, workers) else {
         bail!("no memory for seats");
     };
-    let (keeper, _outcome) = path.close(seats);
+    let (keeper, _outcome) = path.close(rt, alloc, seats);
     let ran = Ran {
         answered,
         receipts,

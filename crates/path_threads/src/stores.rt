@@ -68,7 +68,7 @@ pub fn check_run<R: Threads + Sync, D: Disk + Drop>(
     ran.answered.check()?;
     let base = u32::try_from(store.base())?;
     check(&mut lent.rows, &mut ran.receipts, base, writers, plan)?;
-    let mut disk = store.into_disk();
+    let mut disk = store.into_disk(rt);
     let entries = read_again(rt, alloc, &mut disk, &mut ran.receipts, writers, plan)?;
     Ok((entries, disk))
 }

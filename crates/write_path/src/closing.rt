@@ -20,6 +20,7 @@ use clog_base::Key;
 use path_core::Keeper;
 use path_table::{Member, PathSeat, PathTable, TableBounds};
 use std::alloc::{Allocator, Global};
+use std::thread::Threads;
 
 /// What a path tells when it is closed, beside its keeper.
 #[derive(Clone, Copy, Debug, PartialEq, Eq)]
@@ -54,7 +55,9 @@ fn join_all<K: Keeper, A: Allocator>(
 }
 
 // Joins all seats into one, and closes the table by it.
-fn close_by_all<K: Keeper + Drop>(
+fn close_by_all<R: Threads, K: Keeper + Drop>(
+    rt: &R,
+    alloc: Global,
     table: PathTable<K, Global>,
     seats: Vec<PathSeat<K>>,
 ) -> (K, u64, TableBounds)
@@ -67,7 +70,7 @@ fn close_by_all<K: Keeper + Drop>(
     match seats.pop() {
         Some(PathSeat { member }) => {
             let member = join_all(&table, member, seats);
-            table.finish(member)
+            table.finish(rt, alloc, member)
         }
         None => unreachable!(),
     }
@@ -76,17 +79,19 @@ fn close_by_all<K: Keeper + Drop>(
 impl<K: Keeper + Drop> WritePath<K, Global> {
     /// Closes the path with all of its seats, or with none where they were not handed out. It gives
     /// the keeper back, and where the log ends: what the seats wrote, together, is a lawful
-    /// history, and the keeper has its part up to the synced key; the bounds are those of the
-    /// run's last state. It goes back to the disk of the
-    /// keeper over which the path was opened. A marker stands between each write that is sealed in
-    /// its seat's trail and each later one of that seat. Of a path that was opened by `open_filing`
-    /// each table file is true of that history and stands for an entry of it, what a seat knows to
-    /// be flushed lies in files, a memtable that a seat retired with a table file has that file,
-    /// one that it retired without holds nothing, and each segment that was dropped, or has its
-    /// archive name, may go; of one that was opened by `open` there is no file, and no segment has
-    /// gone. What commits and syncs have answered is so of the trails at the end too
-    /// (`what_close_keeps`).
-    pub fn close(self, seats: Vec<PathSeat<K>>) -> (K, Outcome)
+    /// history, and the keeper has its part up to the synced key; the bounds are those of the run's
+    /// last state. It goes back to the disk of the keeper over which the path was opened. A marker
+    /// stands between each write that is sealed in its seat's trail and each later one of that
+    /// seat. Of a path that was opened by `open_filing` each table file is true of that history and
+    /// stands for an entry of it, what a seat knows to be flushed lies in files, a memtable that a
+    /// seat retired with a table file has that file, one that it retired without holds nothing, and
+    /// each segment that was dropped, or has its archive name, may go; of one that was opened by
+    /// `open` there is no file, and no segment has gone. What commits and syncs have answered is so
+    /// of the trails at the end too (`what_close_keeps`).
+    ///
+    /// What the memtables hold goes, in a thread for which nobody waits where it is much and one
+    /// can be started. It needs no memory.
+    pub fn close<R: Threads>(self, rt: &R, alloc: Global, seats: Vec<PathSeat<K>>) -> (K, Outcome)
         requires seats { AreOf self.table.table.shared.table_id self.table.size seats.items }
         requires all { AreAll self.opener self.table.size.seats (numbers_of seats.items) }
         ensures outcome { (o : IsOutcome self.table.size seats.items result.1.end.0
@@ -100,8 +105,8 @@ impl<K: Keeper + Drop> WritePath<K, Global> {
             mode: _,
         } = self;
         let (keeper, end, bounds) = match opener {
-            Some(opener) => table.finish_unused(opener.take()),
-            None => close_by_all(table, seats),
+            Some(opener) => table.finish_unused(alloc, opener.take()),
+            None => close_by_all(rt, alloc, table, seats),
         };
         let end = Key(end);
         (keeper, Outcome { end, bounds })

@@ -124,7 +124,7 @@ impl<K: Keeper + Drop> WritePath<K, Global> {
                 mode,
             }),
             Err(opener) => {
-                let (keeper, _log, _bounds) = table.finish_unused(opener);
+                let (keeper, _log, _bounds) = table.finish_unused(alloc, opener);
                 Err((keeper, OutOfMemory))
             }
         }

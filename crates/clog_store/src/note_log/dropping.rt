@@ -27,13 +27,13 @@ ghost use Rattle.clog_segments.specs.Discarding.{
   fault_of,
 };
 ghost use Rattle.clog_segments.specs.Discards.{AreDroppable};
-ghost use Rattle.clog_store.specs.Dropping.{AreDue};
+ghost use Rattle.clog_due.specs.Dropping.{AreDue};
 ghost use Rattle.clog_segments.specs.Grows.{Writes};
 ghost use Rattle.clog_segments.specs.Life.{Lives, LivesOn, ReadsAs, StandsHere};
 ghost use Rattle.clog_segments.specs.NamesLast.{NamesGoOn};
 ghost use Rattle.clog_segments.specs.NoteLog.{HasLog, IsNoteLog, LeavesOthers};
 ghost use Rattle.clog_segments.specs.Stepped.{HasLogCause, Passes, StopsBy};
-ghost use Rattle.clog_store.specs.StoreDrops.{AreEarlier};
+ghost use Rattle.clog_due.specs.StoreDrops.{AreEarlier};
 ghost use Rattle.clog_segments.specs.StoreFolder.{IsSound};
 ghost use Rattle.clog_store.specs.StoreTakes.{StandsBehind};
 

@@ -1,7 +1,8 @@
-//! What a log of notes tells of itself: its sizes, the entries that it has made lasting, and those
-//! that it keeps.
-ghost use Rattle.std.specs.Prelude.{◌≡◌};
+//! What a log of notes tells of itself: its sizes, the entries that it has made lasting, and of
+//! those that it keeps the segments.
+ghost use Rattle.std.specs.Prelude.{◌≡◌, ◌↔◌, ℕ, Contains};
 ghost use Rattle.clog_segments.specs.NoteLog.{IsNoteLog};
+ghost use Rattle.clog_due.specs.Dropping.{HasEntry};
 
 use crate::note_log::NoteLog;
 use clog_base::Sizes;
@@ -23,11 +24,11 @@ impl<D: Disk> NoteLog<D> {
         &self.logged
     }
 
-    /// The entries of a sync that was refused, in the order of the log.
-    pub(crate) fn kept(&self) -> &[EntryNote]
-        ensures kept { result.now ≡ self.now.kept }
+    /// The ordinals of the segments that have an entry of a sync that was refused.
+    pub(crate) fn kept_ordinals(&self) -> &[u64]
+        ensures kept { (o : ℕ) → Contains result.now o ↔ HasEntry self.now.kept o }
         ensures noted { IsNoteLog self.now }
     {
-        &self.kept
+        self.kept.ordinals()
     }
 }

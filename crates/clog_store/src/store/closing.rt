@@ -22,6 +22,7 @@ ghost use Rattle.clog_segments.specs.StoreState.{
 
 use crate::store::Store;
 use clog_disk::Disk;
+use std::thread::Threads;
 
 impl<D: Disk> Store<D> {
     /// Gives the disk back. The appends since the opening have brought just the log's sections, and
@@ -46,7 +47,9 @@ impl<D: Disk> Store<D> {
     ///
     /// Where the store has not stopped, the disk has counted no fault since the opening; else the
     /// count has risen, or stands at the greatest `u64`.
-    pub fn into_disk(self) -> D
+    ///
+    /// The memory of many entries is given back by a thread for which nobody waits.
+    pub fn into_disk<R: Threads>(self, rt: &R) -> D
         ensures disk { result ≡ self.notes.log.disk }
         ensures opened { self.notes.log.opened ≡ D.moment self.first }
         ensures later { IsLater D.moment D.read_at D.lasted_at self.first result }
@@ -82,6 +85,6 @@ impl<D: Disk> Store<D> {
         ensures opens { D.lasted_at result self.notes.log.opened
             → OpensSince D.files D.moment D.since self }
     {
-        self.notes.into_log().into_disk()
+        self.notes.into_log(rt).into_disk()
     }
 }

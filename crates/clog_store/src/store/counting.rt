@@ -1,13 +1,13 @@
 //! What a store counts at each discard: what is new since the last one. Where memory is refused it
 //! has counted nothing, and the next discard begins anew.
 ghost use Rattle.std.specs.Prelude.{◌≡◌, IfOk};
-ghost use Rattle.clog_store.specs.Counting.{IsAllCounted, IsCounted};
-ghost use Rattle.clog_store.specs.StoreDrops.{AreDueIn};
+ghost use Rattle.clog_due.specs.Counting.{IsAllCounted, IsCounted};
+ghost use Rattle.clog_due.specs.StoreDrops.{AreDueIn};
 
-use crate::counted::Counted;
 use crate::store::Store;
 use clog_base::OutOfMemory;
 use clog_disk::Disk;
+use clog_due::Counted;
 
 impl<D: Disk> Store<D> {
     // What was counted, or that nothing was. It is no longer kept.
@@ -52,7 +52,7 @@ impl<D: Disk> Store<D> {
         ensures same { self.new ≡ self.old }
     {
         let counted = self.count_all()?;
-        let due = counted.due(self.notes.alloc(), self.notes.kept(), closed)?;
+        let due = counted.due(self.notes.alloc(), self.notes.kept_ordinals(), closed)?;
         self.keep_counted(counted);
         Ok(due)
     }

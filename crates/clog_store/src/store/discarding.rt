@@ -22,7 +22,7 @@ ghost use Rattle.clog_segments.specs.Discarding.{IsWithin, fault_of};
 ghost use Rattle.clog_segments.specs.Life.{Lives, LivesOn};
 ghost use Rattle.clog_segments.specs.NoteLog.{IsNoteLog};
 ghost use Rattle.clog_segments.specs.Stepped.{HasLogCause, StopsBy};
-ghost use Rattle.clog_store.specs.StoreDrops.{
+ghost use Rattle.clog_due.specs.StoreDrops.{
   AreDueIn,
   AreEarlier,
   DropsDue,

@@ -1,30 +1,21 @@
 //! A store puts table files: a path's publications.
 ghost use Rattle.std.specs.Prelude.{◌≡◌, ◌≤◌, ℕ, IfOk, OnErr, OnOk, false, true};
 ghost use Rattle.clog_disk.specs.Images.{IsLater};
-ghost use Rattle.path_core.specs.Keeper.{
-  HasKeeperCause,
-  MayPublish,
-  PublishRefused,
-  Publishes,
-};
+ghost use Rattle.path_core.specs.Keeper.{HasKeeperCause, MayPublish, PublishRefused, Publishes};
 ghost use Rattle.path_core.specs.Keys.{after};
 ghost use Rattle.clog_segments.specs.Life.{Lives, LivesOn};
 ghost use Rattle.clog_segments.specs.NoteLog.{IsNoteLog};
 ghost use Rattle.clog_store.specs.NoteSteps.{GoesOn};
 ghost use Rattle.clog_segments.specs.Publishes.{IsNextSequence};
 ghost use Rattle.clog_segments.specs.Stepped.{IsQuiet};
-ghost use Rattle.clog_segments.specs.StoreState.{
-  HasMoved,
-  HasReached,
-  holding_of,
-  put_of,
-};
+ghost use Rattle.clog_segments.specs.StoreState.{HasMoved, HasReached, holding_of, put_of};
 ghost use Rattle.clog_store.specs.StoreTakes.{GoesOnTaking};
 
-use crate::store::{Store, StoredFile, told};
+use crate::store::{Store, told};
 use clog_base::{Key, Table};
 use clog_cells::CellMap;
 use clog_disk::Disk;
+use clog_due::StoredFile;
 use clog_segments::{Published, StoreFault};
 use path_core::KeeperFault;
 use std::snapshot::Snapshot;

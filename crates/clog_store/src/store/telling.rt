@@ -1,23 +1,15 @@
 //! What a store tells of itself: its sizes, the entries that it has made lasting, how far its table
 //! files reach, and its disk's count of faults.
-ghost use Rattle.std.specs.Prelude.{
-  ◌≡◌,
-  ◌==◌,
-  ◌<◌,
-  ℕ,
-  false,
-  get_or,
-  if◌then◌else◌,
-  true,
-};
+ghost use Rattle.std.specs.Prelude.{◌≡◌, ◌==◌, ◌<◌, ℕ, false, get_or, if◌then◌else◌, true};
 ghost use Rattle.clog_io.specs.Causes.{Rose};
 ghost use Rattle.clog_spec.specs.Sizes.{most_tables};
 ghost use Rattle.path_core.specs.Keeper.{upper_from};
 ghost use Rattle.clog_segments.specs.NoteLog.{IsNoteLog};
 
-use crate::store::{Store, StoredFile};
+use crate::store::Store;
 use clog_base::{Key, Sizes};
 use clog_disk::Disk;
+use clog_due::StoredFile;
 use clog_segments::Published;
 use path_core::EntryNote;
 

@@ -1,4 +1,4 @@
-use Rattle.clog_store.proofs.FolderDue.{true_here}
+use Rattle.clog_due.proofs.FolderDue.{true_here}
 use Rattle.clog_store.proofs.folder_laws.what_a_store_may_publish_is_true.Goals as goal
 
 pub returns : goal.returns

@@ -1,5 +1,5 @@
 use Rattle.std.proofs.Common.{arith}
-use Rattle.clog_store.proofs.OneDroppable.{one_droppable}
+use Rattle.clog_due.proofs.OneDroppable.{one_droppable}
 use Rattle.clog_store_tests.proofs.tests.a_segment_goes_under_its_archive_name.Goals as goal
 
 pub drop_segments-requires : goal.drop_segments-requires

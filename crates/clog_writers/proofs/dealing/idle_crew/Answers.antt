@@ -22,10 +22,10 @@ loop-preserved g c =
     let I = c.loop.invariant in
     let pushed = c.in_ok-push.ensures.items in
     let count = I.count in
-    let long = ap length pushed ∙ length_push c.loop.workers.items c.idle_worker.result in record {
+    let long = ap length pushed ∙ length_push c.loop.workers.items c.in_ok-worker.worker in record {
       count = omega (arith, long, count);
       idle = subst (λ (l : List (Worker g.row.K.Denot)). All P l) (sym pushed)
-          (All-push P c.loop.workers.items c.idle_worker.result I.idle c.idle_worker.ensures);
+          (All-push P c.loop.workers.items c.in_ok-worker.worker I.idle c.in_ok-worker.ensures);
     }
 
 pub returns : goal.returns

@@ -1,5 +1,4 @@
-use Rattle.std.proofs.Common.{List, sym, subst, rules}
-use Rattle.std.proofs.lemmas.List.Sorted.{IsNonDecreasingBy-from_sort_by_key}
+use Rattle.std.proofs.Common.{List, sym, subst}
 use Rattle.std.specs.List.Sorted.{IsPermutation}
 use Rattle.path_core.specs.declared.note.EntryNote.{EntryNote}
 use Rattle.path_core.specs.Keeper.{Syncs, SyncRefused}
@@ -19,24 +18,23 @@ use Rattle.path_table.proofs.lending.lend_pending.Goals as goal
 
 pub sync-requires : goal.sync-requires
 sync-requires g c =
-    let sorted = c.sort_unstable_by_key.new.self.items in
+    let sorted = c.order_by_end.new.notes.items in
     let same = subst (λ (l : List EntryNote). IsPermutation l sorted)
     (all_lent c.move_all.new.lent.items c.move_all.new.gathered (pending_on c.args.desk.now)
     c.in_ok-move_all.ensures.moved c.in_ok-move_all.ensures.all)
-    c.sort_unstable_by_key.ensures.permutation in
+    c.order_by_end.ensures.same in
     may_sync (g.K.Keeper.holds c.args.desk.now.keeper) c.args.upto (pending_on c.args.desk.now)
-    sorted same (IsNonDecreasingBy-from_sort_by_key (λ (n : EntryNote). n.end.0) _
-    c.sort_unstable_by_key.ensures.sorted (λ a r q k. search rules)) c.requires
+    sorted same c.order_by_end.ensures.sorted c.requires
 
 pub returns-clause-syncs : goal.returns-clause-syncs
 returns-clause-syncs g c =
-    let sorted = c.sort_unstable_by_key.new.self.items in
+    let sorted = c.order_by_end.new.notes.items in
     let pending = pending_on c.args.desk.now in
     let holds = g.K.Keeper.holds in
     let same = subst (λ (l : List EntryNote). IsPermutation l sorted)
     (all_lent c.move_all.new.lent.items c.move_all.new.gathered pending
     c.in_ok-move_all.ensures.moved c.in_ok-move_all.ensures.all)
-    c.sort_unstable_by_key.ensures.permutation in
+    c.order_by_end.ensures.same in
     let left = c.sync.new.pending.items in
     on_ok c.sync.result _ _ (λ S. subst (λ (l : List EntryNote).
     Syncs (holds c.args.desk.now.keeper) (holds c.sync.new.self) c.args.upto pending l)
@@ -46,13 +44,13 @@ returns-clause-syncs g c =
 
 pub returns-clause-refused : goal.returns-clause-refused
 returns-clause-refused g c =
-    let sorted = c.sort_unstable_by_key.new.self.items in
+    let sorted = c.order_by_end.new.notes.items in
     let pending = pending_on c.args.desk.now in
     let holds = g.K.Keeper.holds in
     let same = subst (λ (l : List EntryNote). IsPermutation l sorted)
     (all_lent c.move_all.new.lent.items c.move_all.new.gathered pending
     c.in_ok-move_all.ensures.moved c.in_ok-move_all.ensures.all)
-    c.sort_unstable_by_key.ensures.permutation in
+    c.order_by_end.ensures.same in
     let left = c.sync.new.pending.items in
     on_err c.sync.result _ _ (λ S. subst (λ (l : List EntryNote).
     SyncRefused (holds c.args.desk.now.keeper) (holds c.sync.new.self) c.args.upto pending l)
@@ -64,7 +62,7 @@ pub returns-clause-counts : goal.returns-clause-counts
 returns-clause-counts g c =
     let holds = g.K.Keeper.holds in
     tells_faults (holds c.args.desk.now.keeper) (holds c.sync.new.self) c.sync.result c.args.upto
-    c.sort_unstable_by_key.new.self.items c.sync.new.pending.items c.sync.ensures.cause
+    c.order_by_end.new.notes.items c.sync.new.pending.items c.sync.ensures.cause
     c.sync.ensures.refused
 
 pub returns-clause-stopped : goal.returns-clause-stopped

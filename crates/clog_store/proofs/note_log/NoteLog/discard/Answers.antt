@@ -28,7 +28,7 @@ invariant_of-self g c =
       sizes = i.sizes;
       synced = i.synced;
       logged = i.logged.items;
-      kept = i.kept.items;
+      kept = i.kept;
       written = i.written;
     } in
     noted_passed s c.discard.new.self (fault_of c.discard.result) c.discard.ensures.passes

@@ -44,7 +44,7 @@ go_on-requires-clause-fits g c =
       sizes = i.sizes;
       synced = i.synced;
       logged = i.logged.items;
-      kept = i.kept.items;
+      kept = i.kept;
       written = i.written;
     } in
     let runs = subst (λ (x : NoteState g.row.D.Denot). x.log.is_stopped ≡ false)
@@ -73,7 +73,7 @@ go_on-requires-clause-none g c =
       sizes = i.sizes;
       synced = i.synced;
       logged = i.logged.items;
-      kept = i.kept.items;
+      kept = i.kept;
       written = i.written;
     } in
     let runs = subst (λ (x : NoteState g.row.D.Denot). x.log.is_stopped ≡ false)
@@ -102,7 +102,7 @@ go_on-requires-clause-begins g c =
       sizes = i.sizes;
       synced = i.synced;
       logged = i.logged.items;
-      kept = i.kept.items;
+      kept = i.kept;
       written = i.written;
     } in
     let runs = subst (λ (x : NoteState g.row.D.Denot). x.log.is_stopped ≡ false)
@@ -133,7 +133,7 @@ returns-then-is_among-clause-earlier g c =
       sizes = i.sizes;
       synced = i.synced;
       logged = i.logged.items;
-      kept = i.kept.items;
+      kept = i.kept;
       written = i.written;
     } in
     let runs = subst (λ (x : NoteState g.row.D.Denot). x.log.is_stopped ≡ false)
@@ -165,7 +165,7 @@ returns-clause-earlier g c = λ o among.
       sizes = i.sizes;
       synced = i.synced;
       logged = i.logged.items;
-      kept = i.kept.items;
+      kept = i.kept;
       written = i.written;
     } in
     let runs = subst (λ (x : NoteState g.row.D.Denot). x.log.is_stopped ≡ false)
@@ -218,7 +218,7 @@ returns-then-is_among-clause-behind g c =
       sizes = i.sizes;
       synced = i.synced;
       logged = i.logged.items;
-      kept = i.kept.items;
+      kept = i.kept;
       written = i.written;
     } in
     let now = c.args.self.now in

@@ -34,7 +34,7 @@ invariant_of-self g c =
       sizes = i.sizes;
       synced = i.synced;
       logged = i.logged.items;
-      kept = i.kept.items;
+      kept = i.kept;
       written = i.written;
     } in
     noted_on s c.enter.new.log c.args.id (sym c.is_stopped.ensures ∙ c.if-is_stopped.false)

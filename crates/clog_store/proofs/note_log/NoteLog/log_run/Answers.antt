@@ -14,21 +14,21 @@ use Rattle.clog_store.proofs.note_log.NoteLog.log_run.Goals as goal
 pub write_all-requires-clause-ready : goal.write_all-requires-clause-ready
 write_all-requires-clause-ready g c =
     let i = c.self.inside in
-    let run = c.args.run.items in
+    let run = c.args.run.now.items in
     let s : NoteState g.row.D.Denot = record {
       log = i.log;
       base = i.base;
       sizes = i.sizes;
       synced = i.synced;
       logged = i.logged.items;
-      kept = i.kept.items;
+      kept = i.kept;
       written = i.written;
     } in
     let may = subst (λ (x : NoteState g.row.D.Denot). MayRun x c.args.upto run)
     (sym c.self.view_is) c.requires.may in
     let runs = subst (λ (x : NoteState g.row.D.Denot). x.log.is_stopped ≡ false)
     (sym c.self.view_is) c.requires.runs in
-    subst (λ (l : List EntryNote). IsReady i.base i.log l i.written) (sym c.deref.ensures.value)
+    subst (λ (l : List EntryNote). IsReady i.base i.log l i.written) (sym c.as_slice.ensures.value)
     (record {
       sizes = i.sizes;
       synced = i.synced;
@@ -40,14 +40,14 @@ write_all-requires-clause-ready g c =
 pub invariant_of-self-in_err-write_all : goal.invariant_of-self-in_err-write_all
 invariant_of-self-in_err-write_all g c =
     let i = c.self.inside in
-    let run = c.args.run.items in
+    let run = c.args.run.now.items in
     let s : NoteState g.row.D.Denot = record {
       log = i.log;
       base = i.base;
       sizes = i.sizes;
       synced = i.synced;
       logged = i.logged.items;
-      kept = i.kept.items;
+      kept = i.kept;
       written = i.written;
     } in
     let may = subst (λ (x : NoteState g.row.D.Denot). MayRun x c.args.upto run)
@@ -56,8 +56,14 @@ invariant_of-self-in_err-write_all g c =
     (sym c.self.view_is) c.requires.runs in
     let now = c.write_all.new.log in
     let w = c.write_all.new.written in
-    let shown = c.deref.ensures.value in
-    subst (λ (l : List EntryNote). IsNoteLog (record s {
+    let shown = c.as_slice.ensures.value in
+    subst (λ (k : List EntryNote). IsNoteLog (record s {
+      log = now;
+      logged = c.reserve.new.self.items;
+      kept = k;
+      written = w;
+    })) (sym c.in_ok-kept.ensures)
+    (subst (λ (l : List EntryNote). IsNoteLog (record s {
       log = now;
       logged = l;
       kept = run;
@@ -76,19 +82,19 @@ invariant_of-self-in_err-write_all g c =
     (standing i.sizes i.synced i.logged.items i.base now l w)) shown
     (c.write_all.ensures.held i.sizes i.synced i.logged.items c.args.upto
     (subst (λ (l : List EntryNote). ReadyAt i.sizes i.synced i.logged.items c.args.upto i.base i.log
-    l i.written) (sym shown) (ready_of s c.args.upto run may c.self.invariant runs)) still)))
+    l i.written) (sym shown) (ready_of s c.args.upto run may c.self.invariant runs)) still))))
 
 pub invariant_of-self-2 : goal.invariant_of-self-2
 invariant_of-self-2 g c =
     let i = c.self.inside in
-    let run = c.args.run.items in
+    let run = c.args.run.now.items in
     let s : NoteState g.row.D.Denot = record {
       log = i.log;
       base = i.base;
       sizes = i.sizes;
       synced = i.synced;
       logged = i.logged.items;
-      kept = i.kept.items;
+      kept = i.kept;
       written = i.written;
     } in
     let may = subst (λ (x : NoteState g.row.D.Denot). MayRun x c.args.upto run)
@@ -97,7 +103,7 @@ invariant_of-self-2 g c =
     (sym c.self.view_is) c.requires.runs in
     let now = c.write_all.new.log in
     let w = c.write_all.new.written in
-    let shown = c.deref.ensures.value in
+    let shown = c.as_slice.ensures.value in
     let whole : w ≡ length run = c.in_ok-write_all.ensures.all ∙ ap length shown in
     let ready = c.in_ok-write_all.ensures.ready i.sizes i.synced i.logged.items c.args.upto
     (subst (λ (l : List EntryNote). ReadyAt i.sizes i.synced i.logged.items c.args.upto i.base i.log
@@ -115,16 +121,16 @@ invariant_of-self-2 g c =
     w) shown ready)) c.in_ok-write_all.ensures.lasts
     (from_on i.base i.log now (g.D.Disk.files i.log.disk) (g.D.Disk.files now.disk)
     c.write_all.ensures.leaves.rest c.self.invariant.from) in
-    let appended : c.append.new.self.items ≡ i.logged.items ++ run =
-    c.in_ok-append.ensures.items
+    let appended : c.move_behind.new.notes.items ≡ i.logged.items ++ run =
+    c.move_behind.ensures.all
     ∙ ap (λ (l : List EntryNote). l ++ run) c.reserve.ensures.items in
     subst (λ (l : List EntryNote). IsNoteLog (record s {
       log = now;
       synced = c.args.upto;
-      logged = c.append.new.self.items;
+      logged = c.move_behind.new.notes.items;
       kept = l;
       written = 0;
-    })) (sym c.in_ok-append.ensures.other_items)
+    })) (sym c.none.ensures)
     (subst (λ (l : List EntryNote). IsNoteLog (record s {
       log = now;
       synced = c.args.upto;
@@ -132,6 +138,11 @@ invariant_of-self-2 g c =
       kept = [];
       written = 0;
     })) (sym appended) all)
+
+pub returns-in_err-kept-clause-leaves : goal.returns-in_err-kept-clause-leaves
+returns-in_err-kept-clause-leaves g c =
+    let log = c.args.self.now.log in
+    leaves_same g.D.Disk.files g.D.Disk.changes log log refl refl refl refl refl
 
 pub returns-in_err-reserve-clause-leaves : goal.returns-in_err-reserve-clause-leaves
 returns-in_err-reserve-clause-leaves g c =
@@ -151,6 +162,13 @@ returns-clause-leaves g c =
     subst (λ (log : State g.row.D.Denot).
     Leaves g.D.Disk.files g.D.Disk.changes log c.write_all.new.log)
     (ap (λ (x : NoteState g.row.D.Denot). x.log) c.self.view_is) c.write_all.ensures.leaves
+
+pub returns-in_err-kept-clause-goes : goal.returns-in_err-kept-clause-goes
+returns-in_err-kept-clause-goes g c =
+    let D = g.D.Disk in
+    let log = c.args.self.now.log in
+    goes_still D.files D.moment D.since D.leaves D.read_at D.lasted_at log
+    (g.met.D.Disk.only_now log.disk)
 
 pub returns-in_err-reserve-clause-goes : goal.returns-in_err-reserve-clause-goes
 returns-in_err-reserve-clause-goes g c =
@@ -173,7 +191,7 @@ returns-in_err-reserve-clause-takes g c dropped takes still =
       sizes = i.sizes;
       synced = i.synced;
       logged = i.logged.items;
-      kept = i.kept.items;
+      kept = i.kept;
       written = i.written;
     } in
     subst (λ (l : List EntryNote). TakesMore (record s { logged = l }) dropped)
@@ -183,14 +201,14 @@ returns-in_err-reserve-clause-takes g c dropped takes still =
 pub returns-in_err-write_all-clause-takes : goal.returns-in_err-write_all-clause-takes
 returns-in_err-write_all-clause-takes g c dropped takes still =
     let i = c.self.inside in
-    let run = c.args.run.items in
+    let run = c.args.run.now.items in
     let s : NoteState g.row.D.Denot = record {
       log = i.log;
       base = i.base;
       sizes = i.sizes;
       synced = i.synced;
       logged = i.logged.items;
-      kept = i.kept.items;
+      kept = i.kept;
       written = i.written;
     } in
     let may = subst (λ (x : NoteState g.row.D.Denot). MayRun x c.args.upto run)
@@ -199,10 +217,16 @@ returns-in_err-write_all-clause-takes g c dropped takes still =
     (sym c.self.view_is) c.requires.runs in
     let now = c.write_all.new.log in
     let w = c.write_all.new.written in
-    let shown = c.deref.ensures.value in
+    let shown = c.as_slice.ensures.value in
     let before = subst (λ (x : NoteState g.row.D.Denot). TakesMore x dropped)
     (sym c.self.view_is) takes in
-    subst (λ (l : List EntryNote). TakesMore (record s {
+    subst (λ (k : List EntryNote). TakesMore (record s {
+      log = now;
+      logged = c.reserve.new.self.items;
+      kept = k;
+      written = w;
+    }) dropped) (sym c.in_ok-kept.ensures)
+    (subst (λ (l : List EntryNote). TakesMore (record s {
       log = now;
       logged = l;
       kept = run;
@@ -215,19 +239,19 @@ returns-in_err-write_all-clause-takes g c dropped takes still =
     (standing i.sizes i.synced i.logged.items i.base now l w)) shown
     (c.write_all.ensures.held i.sizes i.synced i.logged.items c.args.upto
     (subst (λ (l : List EntryNote). ReadyAt i.sizes i.synced i.logged.items c.args.upto i.base i.log
-    l i.written) (sym shown) (ready_of s c.args.upto run may c.self.invariant runs)) still)))
+    l i.written) (sym shown) (ready_of s c.args.upto run may c.self.invariant runs)) still))))
 
 pub returns-clause-takes : goal.returns-clause-takes
 returns-clause-takes g c dropped takes still =
     let i = c.self.inside in
-    let run = c.args.run.items in
+    let run = c.args.run.now.items in
     let s : NoteState g.row.D.Denot = record {
       log = i.log;
       base = i.base;
       sizes = i.sizes;
       synced = i.synced;
       logged = i.logged.items;
-      kept = i.kept.items;
+      kept = i.kept;
       written = i.written;
     } in
     let may = subst (λ (x : NoteState g.row.D.Denot). MayRun x c.args.upto run)
@@ -236,7 +260,7 @@ returns-clause-takes g c dropped takes still =
     (sym c.self.view_is) c.requires.runs in
     let now = c.write_all.new.log in
     let w = c.write_all.new.written in
-    let shown = c.deref.ensures.value in
+    let shown = c.as_slice.ensures.value in
     let before = subst (λ (x : NoteState g.row.D.Denot). TakesMore x dropped)
     (sym c.self.view_is) takes in
     let whole : w ≡ length run = c.in_ok-write_all.ensures.all ∙ ap length shown in
@@ -257,16 +281,16 @@ returns-clause-takes g c dropped takes still =
     w) shown ready)) c.in_ok-write_all.ensures.lasts
     (from_on i.base i.log now (g.D.Disk.files i.log.disk) (g.D.Disk.files now.disk)
     c.write_all.ensures.leaves.rest c.self.invariant.from) in
-    let appended : c.append.new.self.items ≡ i.logged.items ++ run =
-    c.in_ok-append.ensures.items
+    let appended : c.move_behind.new.notes.items ≡ i.logged.items ++ run =
+    c.move_behind.ensures.all
     ∙ ap (λ (l : List EntryNote). l ++ run) c.reserve.ensures.items in
     subst (λ (l : List EntryNote). TakesMore (record s {
       log = now;
       synced = c.args.upto;
-      logged = c.append.new.self.items;
+      logged = c.move_behind.new.notes.items;
       kept = l;
       written = 0;
-    }) dropped) (sym c.in_ok-append.ensures.other_items)
+    }) dropped) (sym c.none.ensures)
     (subst (λ (l : List EntryNote). TakesMore (record s {
       log = now;
       synced = c.args.upto;

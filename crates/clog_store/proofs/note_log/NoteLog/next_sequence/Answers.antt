@@ -38,7 +38,7 @@ invariant_of-self g c =
       sizes = i.sizes;
       synced = i.synced;
       logged = i.logged.items;
-      kept = i.kept.items;
+      kept = i.kept;
       written = i.written;
     } in
     noted_passed s c.table_sequences.new.self c.table_sequences.result c.table_sequences.ensures.passes c.self.invariant
@@ -52,7 +52,7 @@ returns-in-Err-clause-noted g c =
       sizes = i.sizes;
       synced = i.synced;
       logged = i.logged.items;
-      kept = i.kept.items;
+      kept = i.kept;
       written = i.written;
     } in
     noted_passed s c.table_sequences.new.self c.table_sequences.result c.table_sequences.ensures.passes c.self.invariant
@@ -66,7 +66,7 @@ invariant_of-self-2 g c =
       sizes = i.sizes;
       synced = i.synced;
       logged = i.logged.items;
-      kept = i.kept.items;
+      kept = i.kept;
       written = i.written;
     } in
     noted_passed s c.table_sequences.new.self c.table_sequences.result c.table_sequences.ensures.passes c.self.invariant
@@ -80,7 +80,7 @@ returns-clause-noted g c =
       sizes = i.sizes;
       synced = i.synced;
       logged = i.logged.items;
-      kept = i.kept.items;
+      kept = i.kept;
       written = i.written;
     } in
     noted_passed s c.table_sequences.new.self c.table_sequences.result c.table_sequences.ensures.passes c.self.invariant

@@ -16,7 +16,7 @@ invariant_of-self g c =
       sizes = i.sizes;
       synced = i.synced;
       logged = i.logged.items;
-      kept = i.kept.items;
+      kept = i.kept;
       written = i.written;
     } in
     noted_passed s c.publish.new.self c.publish.result c.publish.ensures.passes c.self.invariant
@@ -30,7 +30,7 @@ returns-clause-noted g c =
       sizes = i.sizes;
       synced = i.synced;
       logged = i.logged.items;
-      kept = i.kept.items;
+      kept = i.kept;
       written = i.written;
     } in
     noted_passed s c.publish.new.self c.publish.result c.publish.ensures.passes c.self.invariant

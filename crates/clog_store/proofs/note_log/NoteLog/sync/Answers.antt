@@ -1,4 +1,4 @@
-use Rattle.std.proofs.Common.{◌≡◌, ◌∙◌, List, drop, take, refl, sym, ap, subst}
+use Rattle.std.proofs.Common.{◌≡◌, List, drop, take, refl, sym, subst}
 use Rattle.path_core.specs.declared.note.EntryNote.{EntryNote}
 use Rattle.path_core.specs.Keeper.{IsParted}
 use Rattle.clog_segments.specs.NoteLog.{BeginsFrom}
@@ -23,25 +23,24 @@ returns-then-not-may_begin-clause-lives g c =
     lives_still D.files D.moment D.since D.leaves D.read_at D.lasted_at log
     (g.met.D.Disk.only_now log.disk)
 
-pub returns-in_err-run-clause-lives : goal.returns-in_err-run-clause-lives
-returns-in_err-run-clause-lives g c =
+pub returns-in_err-others-clause-lives : goal.returns-in_err-others-clause-lives
+returns-in_err-others-clause-lives g c =
     let D = g.D.Disk in
     let log = c.args.self.now.log in
     lives_still D.files D.moment D.since D.leaves D.read_at D.lasted_at log
     (g.met.D.Disk.only_now log.disk)
 
-pub log_run-requires-clause-may : goal.log_run-requires-clause-may
-log_run-requires-clause-may g c =
+pub log_run-outcome-requires-clause-may : goal.log_run-outcome-requires-clause-may
+log_run-outcome-requires-clause-may g c =
     let pending = c.part_at-count.new.pending.items in
     let count = c.part_at-count.result in
-    let is : c.in_ok-run.run'.items ≡ take count pending =
-    c.in_ok-run.ensures ∙ ap (take count) c.deref.ensures.value in
-    may_run c.args.self.now c.args.upto.0 c.args.pending.now.items c.in_ok-run.run'.items
+    let is : c.split_off.new.self.items ≡ take count pending = c.in_ok-others.ensures.items in
+    may_run c.args.self.now c.args.upto.0 c.args.pending.now.items c.split_off.new.self.items
     (drop count pending)
     (subst (λ (l : List EntryNote). IsParted c.args.upto.0 c.args.pending.now.items l
     (drop count pending)) (sym is) c.part_at-count.ensures.parted) c.requires
     (subst (λ (l : List EntryNote). BeginsFrom c.args.self.now.base c.args.self.now.log.id
-    (drop c.args.self.now.written l)) c.deref-2.ensures.value
+    (drop c.args.self.now.written l)) c.deref.ensures.value
     (c.may_begin.ensures.0 c.if-not-may_begin.false))
 
 -- ---- nothing is written
@@ -56,8 +55,8 @@ returns-then-is_stopped-clause-others g c =
     let log = c.args.self.now.log in
     (leaves_same g.D.Disk.files g.D.Disk.changes log log refl refl refl refl refl).rest
 
-pub returns-in_err-run-clause-others : goal.returns-in_err-run-clause-others
-returns-in_err-run-clause-others g c =
+pub returns-in_err-others-clause-others : goal.returns-in_err-others-clause-others
+returns-in_err-others-clause-others g c =
     let log = c.args.self.now.log in
     (leaves_same g.D.Disk.files g.D.Disk.changes log log refl refl refl refl refl).rest
 
@@ -71,8 +70,8 @@ returns-then-not-may_begin-clause-writes g c =
     let log = c.args.self.now.log in
     writes_of g.D.Disk.changes log log (grows_same g.D.Disk.changes log log refl refl refl refl)
 
-pub returns-in_err-run-clause-writes : goal.returns-in_err-run-clause-writes
-returns-in_err-run-clause-writes g c =
+pub returns-in_err-others-clause-writes : goal.returns-in_err-others-clause-writes
+returns-in_err-others-clause-writes g c =
     let log = c.args.self.now.log in
     writes_of g.D.Disk.changes log log (grows_same g.D.Disk.changes log log refl refl refl refl)
 
@@ -80,13 +79,8 @@ returns-in_err-run-clause-writes g c =
 
 pub returns-clause-grows : goal.returns-clause-grows
 returns-clause-grows g c still =
-    grows_of g.D.Disk.changes c.args.self.now.log c.log_run.new.self.log
-    c.log_run.ensures.leaves.brings still
-
-pub returns-in_err-log_run-clause-grows : goal.returns-in_err-log_run-clause-grows
-returns-in_err-log_run-clause-grows g c still =
-    grows_of g.D.Disk.changes c.args.self.now.log c.log_run.new.self.log
-    c.log_run.ensures.leaves.brings still
+    grows_of g.D.Disk.changes c.args.self.now.log c.log_run-outcome.new.self.log
+    c.log_run-outcome.ensures.leaves.brings still
 
 -- ---- which names last
 
@@ -94,8 +88,8 @@ pub returns-then-is_stopped-clause-names_last : goal.returns-then-is_stopped-cla
 returns-then-is_stopped-clause-names_last g c =
     names_still g.D.Disk.files g.D.Disk.leaves c.args.self.now.log
 
-pub returns-in_err-run-clause-names_last : goal.returns-in_err-run-clause-names_last
-returns-in_err-run-clause-names_last g c =
+pub returns-in_err-others-clause-names_last : goal.returns-in_err-others-clause-names_last
+returns-in_err-others-clause-names_last g c =
     names_still g.D.Disk.files g.D.Disk.leaves c.args.self.now.log
 
 pub returns-then-not-may_begin-clause-names_last : goal.returns-then-not-may_begin-clause-names_last

@@ -1,6 +1,6 @@
 use Rattle.std.proofs.Common.{ℕ, List, sym, subst}
 use Rattle.clog_segments.specs.Life.{LivesOn}
-use Rattle.clog_store.specs.StoreDrops.{AreDueIn, AreEarlier}
+use Rattle.clog_due.specs.StoreDrops.{AreDueIn, AreEarlier}
 use Rattle.clog_segments.specs.StoreState.{StoreState}
 use Rattle.clog_store.specs.StoreTakes.{StandsBehind}
 use Rattle.clog_segments.proofs.Lived.{lives_still}

@@ -1,5 +1,5 @@
 use Rattle.std.proofs.Common.{◌∙◌, ℕ, List, sym, subst}
-use Rattle.clog_store.specs.Counting.{IsCountedIn}
+use Rattle.clog_due.specs.Counting.{IsCountedIn}
 use Rattle.clog_segments.specs.StoreState.{IsStore, StoreState}
 use Rattle.clog_store.proofs.store.Store.due_below.Goals as goal
 

@@ -2,9 +2,9 @@ use Rattle.std.proofs.Common.{◌≡◌, ◌∙◌, [], false, refl, sym, ap, su
 use Rattle.std.specs.Prelude.{OnErr, OnOk}
 use Rattle.std.proofs.lemmas.Bool.{true≢false}
 use Rattle.clog_base.proofs.Members.{nothing_there}
-use Rattle.clog_store.specs.Counting.{IsCountedIn}
+use Rattle.clog_due.specs.Counting.{IsCountedIn}
 use Rattle.clog_segments.specs.NoteLog.{HasLog, NoteState}
-use Rattle.clog_store.specs.StoreDrops.{AreDueIn}
+use Rattle.clog_due.specs.StoreDrops.{AreDueIn}
 use Rattle.clog_segments.specs.StoreState.{StoreState, holding_of}
 use Rattle.clog_store.specs.StoreTakes.{StandsBehind}
 use Rattle.clog_store.proofs.OrderSyncs.{goes_for_none, settled_same}

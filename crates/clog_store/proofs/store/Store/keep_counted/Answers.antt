@@ -1,7 +1,7 @@
 use Rattle.std.proofs.Common.{sym, subst}
-use Rattle.clog_store.specs.Counting.{IsCounted}
+use Rattle.clog_due.specs.Counting.{IsCounted}
 use Rattle.clog_segments.specs.StoreState.{StoreState}
-use Rattle.clog_store.proofs.HeldSegments.{counted_first}
+use Rattle.clog_due.proofs.HeldSegments.{counted_first}
 use Rattle.clog_store.proofs.store.Store.keep_counted.Goals as goal
 
 pub invariant_of-self : goal.invariant_of-self

@@ -1,12 +1,12 @@
 use Rattle.std.proofs.Common.{ℕ, ◌∙◌, List, sym, subst, arith}
 use Rattle.std.specs.Prelude.{Err, Ok}
-use Rattle.clog_store.specs.Dropping.{AreDue}
-use Rattle.clog_store.specs.StoreDrops.{AreDueIn, AreEarlier}
+use Rattle.clog_due.specs.Dropping.{AreDue}
+use Rattle.clog_due.specs.StoreDrops.{AreDueIn, AreEarlier}
 use Rattle.clog_segments.specs.StoreState.{holding_of}
 use Rattle.clog_store.specs.StoreTakes.{StandsBehind}
-use Rattle.clog_store.proofs.DroppedLists.{few_below}
+use Rattle.clog_due.proofs.DroppedLists.{few_below}
 use Rattle.clog_segments.proofs.Lived.{lives_further}
-use Rattle.clog_store.proofs.StoreDropped.{
+use Rattle.clog_due.proofs.StoreDropped.{
   all_dropped,
   due_on,
   let_go_on,

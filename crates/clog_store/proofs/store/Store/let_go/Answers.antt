@@ -12,14 +12,14 @@ use Rattle.std.proofs.Common.{
   subst,
 }
 use Rattle.std.specs.Prelude.{if◌then◌else◌}
-use Rattle.clog_store.specs.Counting.{IsCountedIn}
+use Rattle.clog_due.specs.Counting.{IsCountedIn}
 use Rattle.clog_segments.specs.Life.{LivesOn, State}
 use Rattle.clog_segments.specs.NoteLog.{NoteState}
-use Rattle.clog_store.specs.StoreDrops.{AreDueIn, AreEarlier, HasLetGo}
+use Rattle.clog_due.specs.StoreDrops.{AreDueIn, AreEarlier, HasLetGo}
 use Rattle.clog_segments.specs.Stepped.{Passes}
 use Rattle.clog_segments.specs.StoreFolder.{with_gone}
 use Rattle.clog_segments.specs.StoreState.{IsStore, StoreState, deeds_by}
-use Rattle.clog_store.proofs.HeldSegments.{counted_gone}
+use Rattle.clog_due.proofs.HeldSegments.{counted_gone}
 use Rattle.clog_segments.proofs.Lived.{lives_still}
 use Rattle.clog_store.proofs.NoteTakes.{passed_id}
 use Rattle.clog_store.proofs.StoreLetGo.{all_covered, droppable, let_go_with, none_let_go}

@@ -4,8 +4,7 @@ use Rattle.path_core.specs.Keeper.{HasKeeperCause, MaySync, SyncRefused, Syncs}
 use Rattle.clog_segments.specs.Life.{AllLasts}
 use Rattle.clog_segments.specs.StoreState.{StoreState, holding_of, told_as}
 use Rattle.clog_store.specs.StoreTakes.{GoesOnTaking}
-use Rattle.clog_store.proofs.HeldSegments.{counted_synced}
-use Rattle.clog_store.proofs.OrderSyncs.{synced_goes, synced_settled}
+use Rattle.clog_store.proofs.OrderSyncs.{counted_synced, synced_goes, synced_settled}
 use Rattle.clog_store.proofs.StoreFolds.{failed_synced, folder_synced}
 use Rattle.clog_store.proofs.StoreKept.{
   cause_told,

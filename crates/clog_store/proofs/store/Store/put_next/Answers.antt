@@ -16,7 +16,7 @@ use Rattle.std.proofs.Common.{
 }
 use Rattle.clog_base.specs.Positions.{position_of}
 use Rattle.path_core.specs.Keeper.{MayPublish, PutFile}
-use Rattle.clog_store.specs.Counting.{IsCountedIn}
+use Rattle.clog_due.specs.Counting.{IsCountedIn}
 use Rattle.clog_segments.specs.NoteLog.{IsNoteLog, NoteState}
 use Rattle.clog_store.specs.NoteSteps.{GoesOn}
 use Rattle.std.specs.Prelude.{Err}
@@ -32,7 +32,7 @@ use Rattle.clog_segments.specs.StoreState.{
 use Rattle.clog_store.specs.StoreTakes.{GoesOnTaking, TakesNext}
 use Rattle.clog_segments.proofs.AtMost.{ends_up_to}
 use Rattle.clog_store.proofs.NoteTakes.{passed_id, takes_moved}
-use Rattle.clog_store.proofs.HeldSegments.{counted_put}
+use Rattle.clog_due.proofs.HeldSegments.{counted_put}
 use Rattle.clog_store.proofs.NoteGoes.{goes_still}
 use Rattle.clog_store.proofs.NotePasses.{passes_same}
 use Rattle.clog_store.proofs.OrderPuts.{order_put}

@@ -1,6 +1,6 @@
 use Rattle.std.proofs.Common.{◌≡◌, true, ℕ, sym, ◌∙◌, ap₂, subst}
 use Rattle.path_core.specs.Keeper.{HasKeeperCause}
-use Rattle.clog_store.specs.Counting.{IsCountedIn}
+use Rattle.clog_due.specs.Counting.{IsCountedIn}
 use Rattle.clog_segments.specs.NoteLog.{NoteState}
 use Rattle.clog_segments.specs.Stepped.{IsQuiet}
 use Rattle.clog_segments.specs.StoreState.{HasMoved, StoreState, holding_of, told_as}

@@ -1,11 +1,11 @@
 use Rattle.std.proofs.Common.{sym, subst, ◌∙◌}
 use Rattle.std.specs.Prelude.{IfOk, Result}
 use Rattle.clog_base.specs.declared.fault.OutOfMemory.{OutOfMemory}
-use Rattle.clog_store.specs.declared.counted.Counted.{Counted}
-use Rattle.clog_store.specs.Counting.{IsCounted, IsCountedIn}
+use Rattle.clog_due.specs.declared.counted.Counted.{Counted}
+use Rattle.clog_due.specs.Counting.{IsCounted, IsCountedIn}
 use Rattle.clog_segments.specs.StoreState.{StoreState}
-use Rattle.clog_store.proofs.Due.{if_ok_then}
-use Rattle.clog_store.proofs.HeldSegments.{counted_none}
+use Rattle.clog_due.proofs.Due.{if_ok_then}
+use Rattle.clog_due.proofs.HeldSegments.{counted_none}
 use Rattle.clog_store.proofs.store.Store.take_counted.Goals.{in-None, in-Some}
 use Rattle.clog_store.proofs.store.Store.take_counted.Goals as goal
 

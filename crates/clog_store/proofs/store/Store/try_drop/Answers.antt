@@ -2,7 +2,7 @@ use Rattle.std.proofs.Common.{refl, sym, ap, ◌∙◌}
 use Rattle.std.proofs.lemmas.Bool.{true≢false}
 use Rattle.clog_segments.specs.StoreState.{StoreState}
 use Rattle.clog_segments.proofs.Lived.{lives_still}
-use Rattle.clog_store.proofs.StoreDropped.{none_dropped}
+use Rattle.clog_due.proofs.StoreDropped.{none_dropped}
 use Rattle.clog_store.proofs.store.Store.try_drop.Goals as goal
 
 pub returns-then-is_stopped-clause-drops : goal.returns-then-is_stopped-clause-drops

@@ -1,26 +1,27 @@
-use Rattle.std.proofs.Common.{ap, ◌∙◌, arith}
+use Rattle.std.proofs.Common.{ap, ◌∙◌}
 use Rattle.std.specs.Slots.{slots_items}
 use Rattle.path_rule.specs.declared.view.Role.TheVariants as roles
 use Rattle.path_rule.specs.Lasts.{beside_of, shows_of}
 use Rattle.path_table.proofs.seats.Ends.{desk_home, ends_unmade, few_words, free_unmade}
 use Rattle.path_table.proofs.unused.PathTable+K+Global.finish_unused.Goals as goal
 
-pub keeper_and_log-requires : goal.keeper_and_log-requires
-keeper_and_log-requires g c = let t = c.args.self in let w = c.args.opener in
+pub keeper_and_log-requires-clause-few : goal.keeper_and_log-requires-clause-few
+keeper_and_log-requires-clause-few g c = let t = c.args.self in let w = c.args.opener in
+    let o = beside_of (g.K.Keeper.holds t.table.shared.key.first.value) in
+    let closed = c.close_with.result in
+    few_words (shows_of g.K.Keeper.holds) o t.table.shared.key.size w.seat.id w.seat.me.0
+    (slots_items closed.words) (slots_items closed.slots) c.close_with.ensures.values.2
+
+pub keeper_and_log-requires-clause-desk : goal.keeper_and_log-requires-clause-desk
+keeper_and_log-requires-clause-desk g c = let t = c.args.self in let w = c.args.opener in
     let k = t.table.shared.key.size in
     let o = beside_of (g.K.Keeper.holds t.table.shared.key.first.value) in
-    let closed = c.close_with.result in let v = c.close_with.ensures in
+    let closed = c.close_with.result in
     let d = desk_home (shows_of g.K.Keeper.holds) o k w.seat.id w.seat.me.0
     (free_unmade (shows_of g.K.Keeper.holds) o k w.seat.id w.seat.me.0
     (w.role ∙ ap roles.Opener c.requires.unused))
-    (slots_items closed.words) (slots_items closed.slots) v.values.2 in record {
-      full = (v.values.0, v.values.1);
-      words = let n = v.counts.0 in let wide = t.wide in omega arith;
-      few = few_words (shows_of g.K.Keeper.holds) o k w.seat.id w.seat.me.0
-          (slots_items closed.words) (slots_items closed.slots) v.values.2;
-      boxes = let n = v.counts.1 in let deep = t.deep in omega arith;
-      desk = (d.0, d.1);
-    }
+    (slots_items closed.words) (slots_items closed.slots) c.close_with.ensures.values.2 in
+    (d.0, d.1)
 
 pub returns-clause-ended : goal.returns-clause-ended
 returns-clause-ended g c = let t = c.args.self in let w = c.args.opener in

@@ -1,8 +1,0 @@
-use Rattle.std.proofs.Common.{sym, ◌∙◌}
-use Rattle.clog_store.proofs.Due.{in_set}
-use Rattle.clog_store.proofs.droppable.has.Goals as goal
-
-pub returns : goal.returns
-returns c =
-    let is = in_set c.args.set.now c.args.number in
-    (λ found. is.0 (sym c.contains.ensures ∙ found), λ there. c.contains.ensures ∙ is.1 there)

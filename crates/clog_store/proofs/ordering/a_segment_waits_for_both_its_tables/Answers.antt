@@ -1,8 +1,0 @@
-use Rattle.clog_store.proofs.BothTables.{goes, waits}
-use Rattle.clog_store.proofs.ordering.a_segment_waits_for_both_its_tables.Goals as goal
-
-pub returns-clause-waits : goal.returns-clause-waits
-returns-clause-waits c = waits
-
-pub returns-clause-goes : goal.returns-clause-goes
-returns-clause-goes c = goes
