@@ -102,6 +102,43 @@ for limit in 1000 100; do
         'test "$(grep "^{" alone)" = "$(grep "^{" one)"'
 done
 
+# All that a user may ask for, at once: 3,000 lines of 24 updates each, to two tables. Each of 64
+# writers has 46 or 47 of them, all to one table, so its flush is due behind its 42nd one. Of each
+# cell the newest update is in the last 50 lines.
+fresh
+awk 'BEGIN {
+    for (i = 1; i <= 3000; i++) {
+        printf "{\"key\":\"k%d\",\"updates\":[", i % 50
+        for (j = 0; j < 24; j++)
+            printf "%s{\"table\":%d,\"column\":\"c%d\",\"ts\":%d,\"value\":\"v%d\"}", j ? "," : "",
+                i % 2, j, i, i
+        print "]}"
+    }
+}' >input
+mkdir alone
+(cd alone && tail -n 50 ../input | "$pinsilver" apply --dump | tail -n +2 >../newest)
+seq 3000 >numbers
+for size in 32768 64; do
+    rm -rf commitlog scanned
+    "$pinsilver" apply --writers 64 --sync batch --flush-at 1000 --segment-kib $size --archive \
+        --receipts --drain --dump <input >told
+    that "64 writers that flush, drain and archive segments of $size KiB end well" test $? -eq 0
+    that 'all lines are applied' test "$(head -n 1 told)" = 'applied 3000'
+    sed -n 's/^receipt \([0-9]*\) .*/\1/p' told | cmp - numbers >/dev/null
+    that 'each line has its receipt, once and in order' test $? -eq 0
+    that 'no segment is left' test "$(ls commitlog | grep -c '^CommitLog-')" -eq 0
+    sed -n 's/^receipt [0-9]* //p' told | sort >wanted
+    archived_ends >ends
+    that 'an entry ends at each of them in an archived segment, and no other is there' \
+        cmp -s ends wanted
+    grep '^{' told >cells
+    that 'the newest cells are told' cmp -s cells newest
+    "$pinsilver" replay | grep '^{' >replayed
+    that 'and replayed' cmp -s replayed cells
+    that 'each of the two tables was flushed before it was drained' sh -c \
+        'test -e commitlog/Table-0-2.tbl -a -e commitlog/Table-1-2.tbl'
+done
+
 # A run is killed at each call of a kind in turn, up to the first run that is not. Of one that is
 # killed the first lines are there, in order, and of before all; what had its archive name keeps it.
 fresh

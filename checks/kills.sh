@@ -25,6 +25,7 @@ whole_run() {
 # A run that is killed at a moment of such a time, by its number.
 killed_run() {
     lines_of "$1" >input
+    : >said
     (drain) &
     sleep "$(awk -v n="$1" -v ms="$took" 'BEGIN { srand(n); printf "%.3f", rand() * ms / 1000 }')"
     kill -9 $! 2>/dev/null && killed=$((killed + 1))

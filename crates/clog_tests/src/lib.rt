@@ -3,6 +3,8 @@
 #![tactic(auto)]
 
 #[cfg(test)]
+mod alone;
+#[cfg(test)]
 mod engine;
 #[cfg(test)]
 mod halting;
@@ -10,6 +12,8 @@ mod halting;
 mod lines;
 #[cfg(test)]
 mod logged;
+#[cfg(test)]
+mod over_a_store;
 #[cfg(test)]
 mod payloads;
 #[cfg(test)]

@@ -19,7 +19,7 @@ use write_path::{Flush, PathSeat, WritePath};
 
 /// A keeper over lists that refuses its first table files, so many of them.
 #[derive(Drop)]
-struct Unwilling {
+pub(crate) struct Unwilling {
     keeper: ListKeeper,
     refusals: u32,
 }
@@ -56,7 +56,11 @@ impl Keeper for Unwilling {
 
 // A path in periodic mode, whose memtables may go to table files, over a keeper that refuses so
 // many.
-fn filing(alloc: Global, sizes: Sizes, refusals: u32) -> Result<WritePath<Unwilling, Global>, Fail>
+pub(crate) fn filing(
+    alloc: Global,
+    sizes: Sizes,
+    refusals: u32,
+) -> Result<WritePath<Unwilling, Global>, Fail>
     ensures sized { IfOk result (λ p. (sizes.tables ≡ p.table.size.tables)
         × (sizes.capacity ≡ p.table.size.capacity) × (p.table.size.files ≡ true)
         × IsSome p.opener) }
@@ -116,7 +120,7 @@ fn two_filing(
 }
 
 // The file's interval.
-fn flushed(answer: Flush) -> Option<(u64, Position)> {
+pub(crate) fn flushed(answer: Flush) -> Option<(u64, Position)> {
     match answer {
         Flush::Flushed { lower, upper } => Some((lower.0, place_of(upper))),
         _ => None,

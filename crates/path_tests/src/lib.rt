@@ -4,6 +4,8 @@
 #![tactic(auto)]
 
 #[cfg(test)]
+mod above;
+#[cfg(test)]
 mod applying;
 #[cfg(test)]
 mod barriers;
@@ -11,6 +13,8 @@ mod barriers;
 mod commits;
 #[cfg(test)]
 mod flushes;
+#[cfg(test)]
+mod going_on;
 #[cfg(test)]
 mod late;
 #[cfg(test)]

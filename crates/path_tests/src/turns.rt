@@ -56,7 +56,7 @@ fn find_turn<K: Keeper>(
 }
 
 // The same of a table's turn.
-fn find_flush<K: Keeper>(
+pub(crate) fn find_flush<K: Keeper>(
     path: &WritePath<K, Global>,
     seat: PathSeat<K>,
     table: u8,
