@@ -1,5 +1,5 @@
-//! Positions, keys, sizes, names of files, cells and checks, and the faults that several layers
-//! hand on.
+//! Positions, keys, sizes, names of files, cells and checks, the faults that several layers hand
+//! on, and how many threads share a piece of work.
 #![tactic(auto)]
 
 mod cell;
@@ -18,6 +18,7 @@ mod rows;
 mod sizes;
 mod text;
 mod text_row;
+mod threads;
 
 pub use cell::{Cell, CellKey, Kind, Table, Writer};
 pub use crc::{crc32, crc32_int, crc32_more, crc32_plain};
@@ -38,3 +39,4 @@ pub use rows::{Bytes, Rows};
 pub use sizes::Sizes;
 pub use text::Text;
 pub use text_row::TextRow;
+pub use threads::thread_count;

@@ -10,6 +10,7 @@ ghost use Rattle.clog_mutation.specs.Limits.{IsWithinLimits};
 use crate::refusal::BadLine;
 use crate::split::Lines;
 use crate::usual::read_with;
+use clog_base::thread_count;
 use clog_mutation::Mutations;
 use json::Scratch;
 use std::alloc::Global;
@@ -69,10 +70,7 @@ fn part_size<R: Threads>(rt: &R, bytes: usize, lines: usize) -> usize
     if bytes < LEAST_IN_PARTS {
         return lines + 1;
     }
-    match thread::available_parallelism(rt) {
-        Ok(processors) => lines / processors.get().min(MOST_PARTS) + 1,
-        Err(_) => lines + 1,
-    }
+    lines / thread_count(rt, MOST_PARTS) + 1
 }
 
 // Reads parts of so many lines, each in a thread of its own.

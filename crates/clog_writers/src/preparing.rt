@@ -17,7 +17,7 @@ ghost use Rattle.clog_writers.specs.declared.preparing.LineWrite.TheVariants.{Wa
 
 use crate::fault::PlanFault;
 use crate::tally::LineCounts;
-use clog_base::Sizes;
+use clog_base::{Sizes, thread_count};
 use clog_mutation::Mutation;
 use std::alloc::{AllocError, Global};
 use std::thread::Threads;
@@ -123,17 +123,14 @@ fn places_of(alloc: Global, mutations: Vec<Mutation>) -> Result<Vec<LineWrite>, 
     Ok(places)
 }
 
-// By how many threads so many lines are prepared: as many as there are processors, at most 8.
-fn thread_count<R: Threads>(rt: &R, lines: usize) -> usize
+// By how many threads so many lines are prepared: by the caller alone where they are few.
+fn preparing_threads<R: Threads>(rt: &R, lines: usize) -> usize
     ensures { 0 < result }
 {
     if lines < LEAST_SIDE_BY_SIDE {
         return 1;
     }
-    match thread::available_parallelism(rt) {
-        Ok(processors) => processors.get().min(MOST_THREADS),
-        Err(_) => 1,
-    }
+    thread_count(rt, MOST_THREADS)
 }
 
 /// The write of each line, in order, with the counts of its updates where writers flush; or why
@@ -153,7 +150,7 @@ pub(crate) fn prepare_lines<R: Threads + Sync>(
         HaveWritesOf sizes flush_at 0 mutations.items places.items) }
 {
     let mut places = places_of(alloc, mutations)?;
-    let threads = thread_count(rt, places.len());
+    let threads = preparing_threads(rt, places.len());
     thread::for_each_mut(
         rt,
         places.as_mut_slice(),
