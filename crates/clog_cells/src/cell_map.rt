@@ -27,6 +27,7 @@ ghost use Rattle.clog_cells.specs.Merge.{
 };
 ghost use Rattle.clog_cells.specs.Parted.{part_below, part_from};
 
+use crate::bulk::map_of;
 use crate::newest::newer;
 use crate::parting::take_below;
 use clog_base::{Cell, CellKey, OutOfMemory, Table, Text};
@@ -66,6 +67,14 @@ impl CellMap {
             alloc,
             cells: BTreeMap::new(alloc),
         }
+    }
+
+    /// The newest cell of each key among these pairs, in whatever order they come.
+    pub fn of_pairs(alloc: Global, pairs: Vec<(CellKey, Cell)>) -> Result<CellMap, OutOfMemory>
+        ensures { IfOk result (IsMerge pairs.items) }
+    {
+        let cells = map_of(alloc, pairs)?;
+        Ok(CellMap { alloc, cells })
     }
 
     /// The number of cells.
@@ -161,7 +170,12 @@ fn insert(
     }
 }
 
-fn put(cells: &mut BTreeMap<CellKey, Cell>, key: CellKey, cell: Cell) -> Result<(), (CellKey, Cell)>
+/// Merges one cell, as `CellMap::put`.
+pub(crate) fn put(
+    cells: &mut BTreeMap<CellKey, Cell>,
+    key: CellKey,
+    cell: Cell,
+) -> Result<(), (CellKey, Cell)>
     requires { IsCellMap cells.old.entries }
     ensures merged { OnOk result
         (IsMerge (cells.old.entries ++ (key, cell) ∷ []) cells.new.entries) }

@@ -1,6 +1,7 @@
 //! Which of two cells counts, and the merge of many.
 #![tactic(auto)]
 
+mod bulk;
 mod cell_map;
 mod laws;
 mod newest;
