@@ -4,4 +4,5 @@ pub mod Merging
 pub mod Orders
 pub mod Parted
 pub mod Parts
+pub mod Sorting
 mod Words

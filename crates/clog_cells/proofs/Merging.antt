@@ -172,7 +172,7 @@ continues pairs merged more rows p q = record {
 }
 
 -- ---- one pair more
-unrelated : (rows : Pairs) (p : CellKey × Cell) (q : CellKey) (o : Option Cell) → (p.0 ≡ q → ⊥)
+pub unrelated : (rows : Pairs) (p : CellKey × Cell) (q : CellKey) (o : Option Cell) → (p.0 ≡ q → ⊥)
     → IsNewestAt rows q o → IsNewestAt (rows ++ p ∷ []) q o
 unrelated rows p q None apart h = λ c l.
     elim (Contains-push_cases rows p (q, c) l) [
@@ -189,7 +189,7 @@ unrelated rows p q (Some d) apart h = record {
 }
 
 -- whatever the key had is no newer than the cell behind
-topped : (rows : Pairs) (key : CellKey) (cell : Cell)
+pub topped : (rows : Pairs) (key : CellKey) (cell : Cell)
     → ((other : Cell) → Contains rows (key, other) → is_newer other cell ≡ false)
     → IsNewestAt (rows ++ (key, cell) ∷ []) key (Some cell)
 topped rows key cell h = record {
@@ -220,7 +220,7 @@ under rows key cell f h older = record {
   ];
 }
 
-apart_from : (a b : CellKey) → eq_by_cmp key_cmp a b ≡ false → a ≡ b → ⊥
+pub apart_from : (a b : CellKey) → eq_by_cmp key_cmp a b ≡ false → a ≡ b → ⊥
 apart_from a b e same =
     true≢false (sym (key_equiv.refl a) ∙ ap (λ x. eq_by_cmp key_cmp a x) same ∙ e)
 

@@ -30,6 +30,10 @@ cell_cmp a b =
 abbrev pub is_newer : Cell → Cell → Bool
 is_newer a b = is_gt (cell_cmp a b)
 
+-- by key, and of one key the oldest cell first
+abbrev pub pair_cmp : CellKey × Cell → CellKey × Cell → Ordering
+pair_cmp a b = ordering_then (key_cmp a.0 b.0) (cell_cmp a.1 b.1)
+
 -- one of the key's cells among those that have P, and none of them is newer
 pub record IsNewestIn (P : CellKey × Cell → Type 0) (key : CellKey) (cell : Cell) : Type 0 where
   pub listed : P (key, cell)

@@ -1,25 +1,49 @@
-//! A map of many cells at once.
-ghost use Rattle.std.specs.Prelude.{IfOk};
-ghost use Rattle.clog_cells.specs.Merge.{IsCellMap, IsMerge};
+//! A map of many cells at once. Put in one by one, each cell would cost a descent of the tree, and
+//! one more where it is kept: in all that compares more than one sort, which merges runs and so
+//! compares least where the pairs come in runs that are in order. Of sorted pairs the tree is then
+//! built from its leaves up.
+ghost use Rattle.std.specs.Prelude.{◌≡◌, IfOk, OnOk};
+ghost use Rattle.std.specs.List.Sorted.{IsPermutation, IsSorted};
+ghost use Rattle.clog_cells.specs.Merge.{IsCellMap, IsMerge, pair_cmp};
 
-use crate::cell_map::put;
+use crate::cell_map::MAX_CELLS;
+use crate::newest::compare;
 use clog_base::{Cell, CellKey, OutOfMemory};
 use std::alloc::Global;
+use std::cmp::Ordering;
 use std::collections::BTreeMap;
 
-// The newest cell of each key among these pairs.
+// By key, and of one key the oldest cell first.
+fn order_of(a: &(CellKey, Cell), b: &(CellKey, Cell)) -> Ordering
+    ensures { result ≡ pair_cmp a.now b.now }
+{
+    match a.0.cmp(&b.0) {
+        Ordering::Equal => compare(&a.1, &b.1),
+        apart => apart,
+    }
+}
+
+fn sort_oldest_first(pairs: &mut Vec<(CellKey, Cell)>) -> Result<(), OutOfMemory>
+    ensures same { IsPermutation pairs.old.items pairs.new.items }
+    ensures sorted { OnOk result (IsSorted pair_cmp pairs.new.items) }
+{
+    pairs.sort_by(order_of)?;
+    Ok(())
+}
+
+// The newest cell of each key among these pairs: the map keeps the last pair of each key, so within
+// a key the oldest goes first.
 pub(crate) fn map_of(
     alloc: Global,
-    pairs: Vec<(CellKey, Cell)>,
+    mut pairs: Vec<(CellKey, Cell)>,
 ) -> Result<BTreeMap<CellKey, Cell>, OutOfMemory>
     ensures merged { IfOk result (λ cells. IsMerge pairs.items cells.entries) }
     ensures map { IfOk result (λ cells. IsCellMap cells.entries) }
 {
-    let mut cells = BTreeMap::new(alloc);
-    for (key, cell) in pairs {
-        let Ok(()) = put(&mut cells, key, cell) else {
-            return Err(OutOfMemory);
-        };
+    sort_oldest_first(&mut pairs)?;
+    let cells = BTreeMap::from_iter(alloc, pairs)?;
+    if cells.len() > MAX_CELLS {
+        return Err(OutOfMemory);
     }
     Ok(cells)
 }

@@ -36,7 +36,7 @@ use std::collections::BTreeMap;
 use std::marker::Model;
 
 /// The greatest number of cells of a map.
-const MAX_CELLS: usize = 4_294_967_295;
+pub(crate) const MAX_CELLS: usize = 4_294_967_295;
 
 /// The newest cell of each key.
 #[derive(Drop)]

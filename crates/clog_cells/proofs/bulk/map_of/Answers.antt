@@ -1,37 +1,19 @@
-use Rattle.std.proofs.Common.{◌≡◌, ◌++◌, ◌∷◌, [], List, sym, ap, ◌∙◌, subst, append_assoc, arith}
-use Rattle.std.proofs.lemmas.List.{append-nil, nil_from_length}
-use Rattle.clog_base.specs.declared.cell.Cell.{Cell}
-use Rattle.clog_base.specs.declared.cell.CellKey.{CellKey}
-use Rattle.clog_cells.specs.Merge.{IsCellMap, IsMerge}
-use Rattle.clog_cells.proofs.InOrder.{nothing_in_order}
-use Rattle.clog_cells.proofs.Merging.{of_itself, one_more}
+use Rattle.std.proofs.Common.{◌≡◌, ◌∙◌, sym, subst}
+use Rattle.std.specs.BTreeMap.{IsFromIterResult}
+use Rattle.std.proofs.lemmas.List.{map-id}
+use Rattle.std.proofs.lemmas.Iterator.{items_from_drains}
+use Rattle.std.proofs.lemmas.Iterator.Adapters.{YieldsList-from_vec}
+use Rattle.clog_cells.specs.Merge.{key_cmp}
+use Rattle.clog_cells.proofs.Sorting.{of_shuffled}
 use Rattle.clog_cells.proofs.bulk.map_of.Goals as goal
 
-pub loop-key-init : goal.loop-key-init
-loop-key-init c = record {
-  map = subst IsCellMap (sym c.new-cells.ensures.empty)
-      (record { ordered = nothing_in_order; few = omega arith });
-  merged = subst (IsMerge []) (sym c.new-cells.ensures.empty) (of_itself [] nothing_in_order);
-  parts = search;
-  count = search;
-}
-
-pub loop-key-preserved : goal.loop-key-preserved
-loop-key-preserved c = record {
-  map = c.put.ensures.map;
-  merged = one_more [] c.loop-key.yielded c.loop-key.cells.entries c.put.new.cells.entries
-      (c.in-Some.key, c.in-Some.cell) c.loop-key.invariant.merged c.in-Ok.ensures.merged;
-  parts = c.loop-key.invariant.parts
-      ∙ ap (λ (l : List (CellKey × Cell)). c.loop-key.yielded ++ l) c.in-Some.ensures.steps.0
-      ∙ sym (append_assoc c.loop-key.yielded ((c.in-Some.key, c.in-Some.cell) ∷ [])
-      c.next.new.self.rest.items);
-  count = search;
-}
-
 pub returns-clause-merged : goal.returns-clause-merged
-returns-clause-merged c = let I = c.loop-key.invariant in
-    let none : c.loop-key.key-iterator.rest.items ≡ [] =
-    nil_from_length c.loop-key.key-iterator.rest.items (sym I.count ∙ c.in-None.ensures.steps.0) in
-    subst (λ l. IsMerge l c.loop-key.cells.entries)
-    (sym (I.parts ∙ (ap (λ (l : List (CellKey × Cell)). c.loop-key.yielded ++ l) none
-    ∙ append-nil c.loop-key.yielded))) I.merged
+returns-clause-merged c =
+    let sorted = c.sort_oldest_first.new.pairs in
+    let ran = c.in_ok-cells.ensures.ran in
+    let all : ran.1 ≡ sorted.items =
+    sym (map-id ran.1) ∙ items_from_drains ran.1 ran.3
+    (YieldsList-from_vec sorted.items ran.2.0 (ran.2.1 ∙ sorted.ok.0)) in
+    of_shuffled c.args.pairs.items sorted.items c.in_ok-cells.cells
+    c.in_ok-sort_oldest_first.ensures.same c.in_ok-sort_oldest_first.ensures.sorted
+    (subst (λ l. IsFromIterResult key_cmp l c.in_ok-cells.cells) all ran.4)
