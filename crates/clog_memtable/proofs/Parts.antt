@@ -1,4 +1,4 @@
--- Cells of one table among those of an entry, and a memtable entry by entry.
+-- Cells of one table among those of an entry.
 use Rattle.std.proofs.Common.{
   ◌≡◌,
   ◌++◌,
@@ -15,17 +15,15 @@ use Rattle.std.proofs.Common.{
   sym,
   ap,
   ◌∙◌,
-  subst,
   append_assoc,
   eqb-true,
 }
 use Rattle.std.proofs.lemmas.List.Elements.{filter-append}
-use Rattle.std.proofs.lemmas.List.{map-append}
+use Rattle.std.proofs.lemmas.List.{append-nil, map-append}
 use Rattle.clog_base.specs.declared.cell.Cell.{Cell}
 use Rattle.clog_base.specs.declared.cell.CellKey.{CellKey}
 use Rattle.clog_base.specs.declared.cell.Table.{Table}
-use Rattle.clog_cells.specs.Merge.{AreInOrder, IsMerge, is_of_table, part_on}
-use Rattle.clog_cells.proofs.Merging.{continues, none_yet}
+use Rattle.clog_cells.specs.Merge.{is_of_table, part_on}
 use Rattle.clog_mutation.specs.declared.mutation.Update.{Update}
 use Rattle.clog_mutation.specs.Payload.{pair_of}
 
@@ -39,24 +37,22 @@ none_of table pair false apart is = refl
 
 -- a cell of another table adds nothing
 pub nothing_more : (table : Table) (old : Pairs) (pair : CellKey × Cell)
-    → (pair.0.table.0 ≡ table.0 → ⊥) → AreInOrder old
-    → IsMerge (old ++ part_on table (pair ∷ [])) old
-nothing_more table old pair apart ordered =
-    subst (λ (l : Pairs). IsMerge (old ++ l) old)
-    (sym (none_of table pair (is_of_table table pair.0) apart refl)) (none_yet old ordered)
+    → (pair.0.table.0 ≡ table.0 → ⊥) → old ≡ old ++ part_on table (pair ∷ [])
+nothing_more table old pair apart =
+    sym (ap (λ (l : Pairs). old ++ l) (none_of table pair (is_of_table table pair.0) apart refl)
+    ∙ append-nil old)
 
 -- one update more is put
-pub one_update : (table : Table) (key : List ℕ) (old merged new : Pairs) (put : List Update)
-    (update : Update) → IsMerge (old ++ part_on table (map (pair_of key) put)) merged
-    → IsMerge (merged ++ part_on table (pair_of key update ∷ [])) new
-    → IsMerge (old ++ part_on table (map (pair_of key) (put ++ update ∷ []))) new
-one_update table key old merged new put update so_far step =
+pub one_update : (table : Table) (key : List ℕ) (old so_far new : Pairs) (put : List Update)
+    (update : Update) → so_far ≡ old ++ part_on table (map (pair_of key) put)
+    → new ≡ so_far ++ part_on table (pair_of key update ∷ [])
+    → new ≡ old ++ part_on table (map (pair_of key) (put ++ update ∷ []))
+one_update table key old so_far new put update is step =
     let front = part_on table (map (pair_of key) put) in
     let last = part_on table (pair_of key update ∷ []) in
     let both : front ++ last ≡ part_on table (map (pair_of key) (put ++ update ∷ [])) =
     sym (filter-append (λ p. is_of_table table p.0) (map (pair_of key) put)
     (pair_of key update ∷ []))
     ∙ ap (part_on table) (sym (map-append (pair_of key) put (update ∷ []))) in
-    subst (λ (l : Pairs). IsMerge l new)
-    (append_assoc old front last ∙ ap (λ (l : Pairs). old ++ l) both)
-    (continues (old ++ front) merged last new so_far step)
+    step ∙ ap (λ (l : Pairs). l ++ last) is ∙ append_assoc old front last
+    ∙ ap (λ (l : Pairs). old ++ l) both

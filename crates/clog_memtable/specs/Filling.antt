@@ -13,7 +13,7 @@ use Rattle.std.specs.Prelude.{
 }
 use Rattle.clog_base.specs.declared.cell.Cell.{Cell}
 use Rattle.clog_base.specs.declared.cell.CellKey.{CellKey}
-use Rattle.clog_cells.specs.Merge.{IsMerge, part_on}
+use Rattle.clog_cells.specs.Merge.{part_on}
 use Rattle.clog_mutation.specs.declared.mutation.Mutation.{Mutation}
 use Rattle.clog_mutation.specs.Payload.{cells_of}
 use Rattle.path_core.specs.declared.note.EntryNote.{EntryNote}
@@ -47,9 +47,7 @@ pub record IsPutBy (i : Interval) (notes : List EntryNote) (pair : CellKey × Ce
   pub whole : IsWhole note
   pub listed : Contains (cells_in i note whole.mutation) pair
 
--- The cells are the merge of what these entries put into the memtable.
-pub record IsFilled (i : Interval) (notes : List EntryNote) (cells : List (CellKey × Cell))
-    : Type 0 where
-  pub pairs : List (CellKey × Cell)
-  pub merged : IsMerge pairs cells
-  pub exact : (pair : CellKey × Cell) → Contains pairs pair ↔ IsPutBy i notes pair
+-- These are the cells that entries put into the memtable, in whatever order and as often as they
+-- come.
+abbrev pub ArePutBy : Interval → List EntryNote → List (CellKey × Cell) → Type 0
+ArePutBy i notes cells = (pair : CellKey × Cell) → Contains cells pair ↔ IsPutBy i notes pair

@@ -1,10 +1,9 @@
--- What cells were gathered from entries.
+-- The cells that entries have of a table.
 use Rattle.std.specs.Prelude.{◌≡◌, ◌↔◌, ℕ, List}
 use Rattle.std.specs.List.{Contains}
 use Rattle.clog_base.specs.declared.cell.Cell.{Cell}
 use Rattle.clog_base.specs.declared.cell.CellKey.{CellKey}
 use Rattle.clog_base.specs.declared.cell.Table.{Table}
-use Rattle.clog_cells.specs.Merge.{IsMerge}
 use Rattle.clog_mutation.specs.Payload.{cells_of}
 use Rattle.path_core.specs.declared.note.EntryNote.{EntryNote}
 use Rattle.path_core.specs.Whole.{IsWhole}
@@ -17,9 +16,7 @@ pub record IsCellOf (notes : List EntryNote) (t : ℕ) (pair : CellKey × Cell) 
   pub listed : Contains (cells_of whole.mutation) pair
   pub of_table : pair.0.table.0 ≡ t
 
--- The cells are the merge of what these entries say of a table.
-pub record IsGathered (table : Table) (notes : List EntryNote) (cells : List (CellKey × Cell))
-    : Type 0 where
-  pub pairs : List (CellKey × Cell)
-  pub merged : IsMerge pairs cells
-  pub exact : (pair : CellKey × Cell) → Contains pairs pair ↔ IsCellOf notes table.0 pair
+-- These are the cells that entries have of a table, in whatever order and as often as they come.
+abbrev pub AreCellsOf : Table → List EntryNote → List (CellKey × Cell) → Type 0
+AreCellsOf table notes cells =
+    (pair : CellKey × Cell) → Contains cells pair ↔ IsCellOf notes table.0 pair

@@ -1,27 +1,26 @@
-//! The cells that an entry has of one table are put into a map.
+//! The cells that an entry has of one table are put behind those of others. They are merged all at
+//! once, which compares fewer keys than to put each into a map.
 ghost use Rattle.std.specs.Prelude.{◌≡◌, ◌∷◌, ◌++◌, [], OnOk, map};
-ghost use Rattle.clog_cells.specs.Merge.{AreInOrder, IsMerge, part_on};
+ghost use Rattle.clog_cells.specs.Merge.{part_on};
 ghost use Rattle.clog_mutation.specs.Payload.{cells_of, pair_of};
 ghost use Rattle.path_core.specs.Whole.{IsWhole};
 
 use clog_base::{Cell, CellKey, OutOfMemory, Table, Text};
-use clog_cells::CellMap;
 use clog_entry::ENTRY_FRONT_SIZE;
 use clog_mutation::{Mutation, Update, decode};
 use path_core::EntryNote;
 use std::alloc::Global;
 
-// Puts what an update says, if it is of the table.
+// Puts what an update says behind other cells, if it is of the table.
 fn put_update(
     alloc: Global,
-    cells: &mut CellMap,
+    cells: &mut Vec<(CellKey, Cell)>,
     table: Table,
     key: &Text,
     update: Update,
 ) -> Result<(), OutOfMemory>
-    requires { AreInOrder cells.old }
-    ensures { OnOk result
-        (IsMerge (cells.old ++ part_on table (pair_of key.now update ∷ [])) cells.new) }
+    ensures { OnOk result (cells.new.items
+        ≡ cells.old.items ++ part_on table (pair_of key.now update ∷ [])) }
 {
     if update.table.0 != table.0 {
         return Ok(());
@@ -31,23 +30,20 @@ fn put_update(
         key: Text::copy_of(alloc, key.as_str())?,
         column: update.column,
     };
-    match cells.put(key, update.cell) {
-        Ok(()) => Ok(()),
-        Err(_) => Err(OutOfMemory),
-    }
+    cells.push((key, update.cell))?;
+    Ok(())
 }
 
 // Puts those of the updates under a key that are of the table.
 fn put_updates(
     alloc: Global,
-    cells: &mut CellMap,
+    cells: &mut Vec<(CellKey, Cell)>,
     table: Table,
     key: &Text,
     updates: Vec<Update>,
 ) -> Result<(), OutOfMemory>
-    requires { AreInOrder cells.old }
-    ensures { OnOk result
-        (IsMerge (cells.old ++ part_on table (map (pair_of key.now) updates.items)) cells.new) }
+    ensures { OnOk result (cells.new.items
+        ≡ cells.old.items ++ part_on table (map (pair_of key.now) updates.items)) }
 {
     for update in updates {
         put_update(alloc, cells, table, key, update)?;
@@ -58,28 +54,27 @@ fn put_updates(
 // Puts the cells of a mutation that are of the table.
 fn put_mutation(
     alloc: Global,
-    cells: &mut CellMap,
+    cells: &mut Vec<(CellKey, Cell)>,
     table: Table,
     mutation: Mutation,
 ) -> Result<(), OutOfMemory>
-    requires { AreInOrder cells.old }
-    ensures { OnOk result (IsMerge (cells.old ++ part_on table (cells_of mutation)) cells.new) }
+    ensures { OnOk result (cells.new.items
+        ≡ cells.old.items ++ part_on table (cells_of mutation)) }
 {
     let Mutation { key, updates } = mutation;
     put_updates(alloc, cells, table, &key, updates.into_vec())
 }
 
-/// Puts the cells of an entry that are of the table.
+/// Puts the cells of an entry that are of the table behind others.
 pub(crate) fn put_note(
     alloc: Global,
-    cells: &mut CellMap,
+    cells: &mut Vec<(CellKey, Cell)>,
     table: Table,
     note: &EntryNote,
 ) -> Result<(), OutOfMemory>
-    requires ordered { AreInOrder cells.old }
-    requires whole { IsWhole note.now }
-    ensures { (whole : IsWhole note.now) → OnOk result
-        (IsMerge (cells.old ++ part_on table (cells_of whole.mutation)) cells.new) }
+    requires { IsWhole note.now }
+    ensures { (whole : IsWhole note.now) → OnOk result (cells.new.items
+        ≡ cells.old.items ++ part_on table (cells_of whole.mutation)) }
 {
     let bytes = note.bytes.as_slice();
     let payload = &bytes[ENTRY_FRONT_SIZE..bytes.len() - 4];

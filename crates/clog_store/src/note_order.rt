@@ -19,11 +19,6 @@ ghost use Rattle.path_core.specs.declared.note.EntryNote.{EntryNote};
 ghost use Rattle.path_core.specs.Keeper.{IsParted};
 
 use path_core::EntryNote;
-use std::thread;
-use std::thread::Threads;
-
-// Fewer notes than these go at once.
-const LEAST_BESIDE: usize = 4096;
 
 // How many notes, in the order of their ends, end at or below a key.
 fn count_up_to(notes: &[EntryNote], upto: u64) -> usize
@@ -63,13 +58,4 @@ pub(crate) fn move_behind(notes: &mut Vec<EntryNote>, more: &mut Vec<EntryNote>)
     if notes.append(more).is_err() {
         unreachable!()
     }
-}
-
-/// The notes go: where they are many in a thread of their own, if it can be started, for which
-/// nobody waits.
-pub(crate) fn give_back<R: Threads>(rt: &R, notes: Vec<EntryNote>) {
-    if notes.len() < LEAST_BESIDE {
-        return;
-    }
-    drop(thread::spawn(rt, move || drop(notes)));
 }

@@ -12,9 +12,10 @@ use Rattle.std.specs.Prelude.{
   List,
   slice_index,
 }
+use Rattle.path_core.specs.declared.state.Bound.TheVariants.{Final}
 use Rattle.path_core.specs.declared.state.PathState.{PathState}
 use Rattle.path_core.specs.History.{bound_before}
-use Rattle.path_core.specs.Parts.{table_of}
+use Rattle.path_core.specs.Parts.{HasPassedBarrier, memtable_of, table_of}
 use Rattle.path_table.specs.declared.bounds.TableBounds.{TableBounds}
 
 -- the key of the bound below a memtable of a table, as its word has it; 0 below the first
@@ -26,7 +27,11 @@ key_below words t (suc m) = slice_index words (131144 + 16 * m + t) % 2 ^ 62
 abbrev pub last_key : List ℕ → ℕ → ℕ
 last_key words t = key_below words t (slice_index words (8 + 4 * t))
 
--- These are the bounds below the newest memtables of a state.
-abbrev pub TellsBounds : PathState → TableBounds → Type 0
-TellsBounds x bounds = (t : ℕ) → t < 16
-    → slice_index bounds.keys t ≡ bound_before x t (table_of x t).newest
+-- What a closed table tells of its tables' bounds in the state where its run ends. Each is that of
+-- the memtable below the newest one, key 0 where there is none; it is a final bound, and the
+-- memtable's barrier is passed, so no write comes there any more.
+pub record TellsBounds (x : PathState) (bounds : TableBounds) : Type 0 where
+  pub keys : (t : ℕ) → t < 16 → slice_index bounds.keys t ≡ bound_before x t (table_of x t).newest
+  pub final : (t m : ℕ) → t < 16 → (table_of x t).newest ≡ suc m
+      → (memtable_of x t m).bound ≡ Final (record { 0 = slice_index bounds.keys t })
+  pub passed : (t m : ℕ) → (table_of x t).newest ≡ suc m → HasPassedBarrier x t m

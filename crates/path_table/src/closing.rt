@@ -28,10 +28,10 @@ ghost use Rattle.path_table.specs.Members.{
 };
 
 use crate::bounds::{TableBounds, last_bounds};
-use crate::giving_back::{give_back, put_aside};
 use crate::table::{Member, PathTable};
 use crate::words::LOG;
 use atomic_table::Closed;
+use clog_base::drop_beside;
 use path_core::{EntryNote, Keeper};
 use path_rule::{Desk, Merge, Slot};
 use std::alloc::{Allocator, Global};
@@ -59,6 +59,14 @@ impl<K: Keeper, A: Allocator> PathTable<K, A> {
     {
         let Member { seat, number: _ } = other;
         self.table.shared.join_seat::<Merge>(&mut first.seat, seat);
+    }
+}
+
+// The notes of a box go behind others, which takes no memory; a desk goes at once.
+fn put_aside<K: Drop>(notes: &mut LinkedList<EntryNote>, slot: Slot<K>) {
+    match slot {
+        Slot::Notes(mut more) => drop(notes.append(&mut more)),
+        Slot::Turn(desk) => drop(desk),
     }
 }
 
@@ -103,8 +111,9 @@ pub(crate) fn keeper_and_log<K: Keeper + Drop>(
 }
 
 impl<K: Keeper + Drop> PathTable<K, Global> {
-    /// Closes the table by a seat that took in all others. It answers the keeper, the log key, and
-    /// of each table the bound below its newest memtable; and what the path was: one run of the
+    /// Closes the table by a seat that took in all others and holds no turn. It answers the keeper,
+    /// the log key, and of each table the bound below its newest memtable, which is a final one,
+    /// since no switch is left half done; and what the path was: one run of the
     /// machine, in which each seat's steps are its own, and which ends in a lawful state with that
     /// log key and these bounds, of which the keeper holds exactly what is lasting. Beside its log
     /// it has what the keeper had for which the table was opened. What its memtables hold goes, in
@@ -118,7 +127,8 @@ impl<K: Keeper + Drop> PathTable<K, Global> {
         requires table { (member.seat.table_id ≡ self.table.shared.table_id)
             × (boxes_of member ≡ []) }
         requires all { HasAll self.size.seats member.number (view_of member).returned }
-        requires idle { ((part_of member).append ≡ None) × ((part_of member).sync ≡ None) }
+        requires idle { (part_of member).append ≡ None }
+        requires free { HoldsNoTurn (part_of member) }
         ensures { (ended : Ended (beside_of (K.holds self.table.shared.key.first.value)) self.size
             (returned_of member ∷ (view_of member).returned) result.1 (K.holds result.0))
             × TellsBounds ended.core result.2 }
@@ -127,7 +137,7 @@ impl<K: Keeper + Drop> PathTable<K, Global> {
         let Member { seat, number: _ } = member;
         let mut notes = LinkedList::new(alloc);
         let ended = keeper_and_log(table.close_with(seat), &mut notes);
-        give_back(rt, notes);
+        drop_beside(rt, notes.len(), notes);
         ended
     }
 }

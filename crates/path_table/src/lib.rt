@@ -17,7 +17,6 @@ mod ending;
 mod filing;
 mod flush_reading;
 mod gathering;
-mod giving_back;
 mod lending;
 mod looking;
 mod marker_keys;

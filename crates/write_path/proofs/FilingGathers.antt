@@ -28,13 +28,14 @@ use Rattle.std.proofs.Common.{
   IfSome,
 }
 use Rattle.std.proofs.lemmas.List.{append-nil}
-use Rattle.std.specs.List.{filter, list_any}
+use Rattle.std.specs.List.{Contains, filter, list_any}
 use Rattle.clog_base.specs.declared.cell.Cell.{Cell}
 use Rattle.clog_base.specs.declared.cell.CellKey.{CellKey}
 use Rattle.clog_base.specs.declared.cell.Table.{Table}
 use Rattle.clog_cells.proofs.Merging.{of_same}
-use Rattle.clog_memtable.specs.Gathering.{IsCellOf, IsGathered}
-use Rattle.clog_memtable.proofs.Gathered.{gathered_is, gathered_none}
+use Rattle.clog_cells.specs.Merge.{IsMerge}
+use Rattle.clog_memtable.specs.Gathering.{AreCellsOf, IsCellOf}
+use Rattle.clog_memtable.proofs.Gathered.{gathered_none}
 use Rattle.path_core.specs.declared.note.EntryNote.{EntryNote}
 use Rattle.path_rule.specs.declared.view.FlushRead.{FlushRead}
 use Rattle.path_rule.specs.declared.view.Hands.{Hands}
@@ -51,8 +52,8 @@ use Rattle.write_path.specs.FlushGathers.{
   HasGathered,
   HasGatheredAll,
   HoldsGathered,
+  IsMadeOf,
   ReadsIt,
-  gathered_of,
   told_some,
 }
 
@@ -101,22 +102,25 @@ cell_of notes t pair C = record {
   of_table = C.of_table;
 }
 
--- what is gathered of all that was seen is what a file of it has to hold
-pub gathered_seen : (t : Table) (q : FlushRead) (cells : List (CellKey × Cell))
-    → IsGathered t q.seen cells → AreSeen q t.0 cells
-gathered_seen t q cells G = of_same (IsCellOf q.seen t.0) (IsCellIn q.seen t.0) cells
-    (λ pair. (cell_in q.seen t.0 pair, cell_of q.seen t.0 pair)) (gathered_is t q.seen cells G)
+-- the merge of the cells of all that was seen is what a file of it has to hold
+gathered_seen : (t : Table) (q : FlushRead) (cells merged : List (CellKey × Cell))
+    → AreCellsOf t q.seen cells → IsMerge cells merged → AreSeen q t.0 merged
+gathered_seen t q cells merged G M = of_same (Contains cells) (IsCellIn q.seen t.0) merged
+    (λ pair. (
+      λ there. cell_in q.seen t.0 pair ((G pair).0 there),
+      λ c. (G pair).1 (cell_of q.seen t.0 pair c),
+    )) M
 
 -- a further box was read, whose rest holds these notes
 pub box_gathered : {E : Type 0} (t : Table) (seen left : List EntryNote)
     (p : EntryNote → Bool) (new : List (CellKey × Cell)) (some more : Bool) (after : Hands)
     (done : Result (Unit {0}) E)
     → ((q : FlushRead) → after.reading ≡ Some q → seen ++ filter p left ≡ q.seen)
-    → OnOk done (IsGathered t (seen ++ filter p left) new) → AreSome some seen
+    → OnOk done (AreCellsOf t (seen ++ filter p left) new) → AreSome some seen
     → more ≡ (list_any p left || some)
     → IfSome (told_some done more) (λ b. HoldsGathered t new b after)
 box_gathered t seen left p new some more after (Ok u) is G S same = λ q has. (
-  subst (λ l. IsGathered t l new) (is q has) G,
+  subst (λ l. AreCellsOf t l new) (is q has) G,
   subst (λ l. AreSome more l) (is q has) (subst (λ b. AreSome b (seen ++ filter p left)) (sym same)
       (joined_some some (list_any p left) seen (filter p left) S (kept_some p left))),
 )
@@ -127,20 +131,23 @@ pub none_gathered : (t : Table) (cells : List (CellKey × Cell)) (h : Hands)
     → ((q : FlushRead) → h.reading ≡ Some q → q.seen ≡ []) → cells ≡ []
     → HoldsGathered t cells false h
 none_gathered t cells h void none = λ q has. (
-  subst (λ l. IsGathered t l cells) (sym (void q has))
-      (subst (λ (k : List (CellKey × Cell)). IsGathered t [] k) (sym none) (gathered_none t)),
+  subst (λ l. AreCellsOf t l cells) (sym (void q has))
+      (subst (λ (k : List (CellKey × Cell)). AreCellsOf t [] k) (sym none) (gathered_none t)),
   void q has,
 )
 
 -- all boxes were
 pub all_gathered : (seats : ℕ) (t : Table) (m : ℕ) (cells : List (CellKey × Cell))
-    (some : Option Bool) (h : Hands) → HasGatheredAll seats t m cells some h
-    → HasGathered seats t m (gathered_of some cells) h
-all_gathered seats t m cells (Some true) h A =
-    (A.0, A.1, A.3, gathered_seen t A.0 cells A.2)
-all_gathered seats t m cells (Some false) h A =
+    (some : Option Bool) (h : Hands) (g : Gathered) → HasGatheredAll seats t m cells some h
+    → IsMadeOf some cells g → HasGathered seats t m g h
+all_gathered seats t m cells (Some true) h (Cells merged) A M =
+    (A.0, A.1, A.3, gathered_seen t A.0 cells merged A.2 M)
+all_gathered seats t m cells (Some true) h Nothing A M = absurd M
+all_gathered seats t m cells (Some true) h OutOfMemory A M =
+    (A.0, (A.1.0, A.1.1, A.1.2, A.1.3))
+all_gathered seats t m cells (Some false) h g A M = subst (λ k. HasGathered seats t m k h) (sym M)
     (A.0, A.1.0, A.1.1, A.1.2, A.1.3, A.1.4, A.3)
-all_gathered seats t m cells None h A = A
+all_gathered seats t m cells None h g A M = subst (λ k. HasGathered seats t m k h) (sym M) A
 
 -- it is what is read of the memtable
 pub reads_it : (seats : ℕ) (t : Table) (m : ℕ) (g : Gathered) (h : Hands)

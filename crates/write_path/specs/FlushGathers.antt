@@ -18,7 +18,8 @@ use Rattle.std.specs.Prelude.{
 use Rattle.clog_base.specs.declared.cell.Cell.{Cell}
 use Rattle.clog_base.specs.declared.cell.CellKey.{CellKey}
 use Rattle.clog_base.specs.declared.cell.Table.{Table}
-use Rattle.clog_memtable.specs.Gathering.{IsGathered}
+use Rattle.clog_cells.specs.Merge.{IsMerge}
+use Rattle.clog_memtable.specs.Gathering.{AreCellsOf}
 use Rattle.path_core.specs.declared.note.EntryNote.{EntryNote}
 use Rattle.path_rule.specs.declared.view.FlushRead.{FlushRead}
 use Rattle.path_rule.specs.declared.view.Hands.{Hands}
@@ -36,10 +37,10 @@ abbrev pub AreSome : Bool → List EntryNote → Type 0
 AreSome true notes = notes ≢ []
 AreSome false notes = notes ≡ []
 
--- These are the newest cells of a table in what it has read, which is something, or nothing.
+-- These are the cells of a table in what it has read, which is something, or nothing.
 abbrev pub HoldsGathered : Table → List (CellKey × Cell) → Bool → Hands → Type 0
 HoldsGathered table cells some h = (q : FlushRead) → h.reading ≡ Some q
-    → IsGathered table q.seen cells × AreSome some q.seen
+    → AreCellsOf table q.seen cells × AreSome some q.seen
 
 -- It reads memtable m of a table, and has no box in hand.
 abbrev pub ReadsIt : ℕ → ℕ → Hands → FlushRead → Type 0
@@ -50,7 +51,7 @@ ReadsIt t m h q = (h.reading ≡ Some q) × (q.table ≡ t) × (q.memtable ≡ m
 abbrev pub HasGatheredAll : ℕ → Table → ℕ → List (CellKey × Cell) → Option Bool → Hands → Type 0
 HasGatheredAll seats table m cells None h = (q : FlushRead) × ReadsIt table.0 m h q
 HasGatheredAll seats table m cells (Some some) h = (q : FlushRead) × SeesAll seats h table.0 m q
-    × IsGathered table q.seen cells × AreSome some q.seen
+    × AreCellsOf table q.seen cells × AreSome some q.seen
 
 -- the same by what is gathered
 abbrev pub HasGathered : ℕ → Table → ℕ → Gathered → Hands → Type 0
@@ -64,8 +65,11 @@ abbrev pub told_some : {T E : Type 0} → Result T E → Bool → Option Bool
 told_some (Ok done) some = Some some
 told_some (Err fault) some = None
 
--- what is gathered, by whether something was found
-abbrev pub gathered_of : Option Bool → List (CellKey × Cell) → Gathered
-gathered_of (Some true) cells = Cells cells
-gathered_of (Some false) cells = Nothing
-gathered_of None cells = OutOfMemory
+-- What is gathered, by whether something was found: the merge of the cells, unless memory is
+-- refused for it.
+abbrev pub IsMadeOf : Option Bool → List (CellKey × Cell) → Gathered → Type 0
+IsMadeOf (Some true) cells (Cells merged) = IsMerge cells merged
+IsMadeOf (Some true) cells Nothing = ⊥
+IsMadeOf (Some true) cells OutOfMemory = Unit {0}
+IsMadeOf (Some false) cells gathered = gathered ≡ Nothing
+IsMadeOf None cells gathered = gathered ≡ OutOfMemory

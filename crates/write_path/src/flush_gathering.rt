@@ -1,5 +1,5 @@
-//! What was written to a memtable is gathered behind its barrier, from the boxes of all seats, into
-//! the cells of a table file. For that its table's Flush turn is enough.
+//! What was written to a memtable is gathered behind its barrier, from the boxes of all seats, and
+//! merged all at once into the cells of a table file. For that its table's Flush turn is enough.
 ghost use Rattle.std.specs.List.{list_any};
 ghost use Rattle.std.specs.Prelude.{◌≡◌, ℕ, suc, ◌<◌, ◌||◌, [], Some, nat_lt, IfSome};
 ghost use Rattle.path_core.specs.declared.note.EntryNote.{EntryNote};
@@ -9,7 +9,7 @@ ghost use Rattle.write_path.specs.FlushGathers.{
   HasGathered,
   HasGatheredAll,
   HoldsGathered,
-  gathered_of,
+  IsMadeOf,
   told_some,
 };
 ghost use Rattle.write_path.specs.FlushReads.{HasRead, ReadSteps};
@@ -18,7 +18,7 @@ ghost use Rattle.write_path.specs.Tries.{Stays};
 
 use crate::flush_reading::{box_number, trim};
 use crate::seats::WritePath;
-use clog_base::{Key, OutOfMemory, Table};
+use clog_base::{Cell, CellKey, Key, OutOfMemory, Table};
 use clog_cells::CellMap;
 use clog_memtable::gather;
 use path_core::{EntryNote, Keeper};
@@ -61,12 +61,22 @@ fn told_some(done: Result<(), OutOfMemory>, some: bool) -> Option<bool>
     }
 }
 
+// The newest of these cells.
+fn merged(alloc: Global, cells: Vec<(CellKey, Cell)>) -> Gathered
+    ensures { IsMadeOf (Some true) cells.items result }
+{
+    match CellMap::of_pairs(alloc, cells) {
+        Ok(cells) => Gathered::Cells(cells),
+        Err(_) => Gathered::OutOfMemory,
+    }
+}
+
 // What was gathered, by whether something was found.
-fn gathered_of(some: Option<bool>, cells: CellMap) -> Gathered
-    ensures { result ≡ gathered_of some cells }
+fn gathered_of(alloc: Global, some: Option<bool>, cells: Vec<(CellKey, Cell)>) -> Gathered
+    ensures { IsMadeOf some cells.items result }
 {
     match some {
-        Some(true) => Gathered::Cells(cells),
+        Some(true) => merged(alloc, cells),
         Some(false) => Gathered::Nothing,
         None => Gathered::OutOfMemory,
     }
@@ -84,20 +94,20 @@ impl<K: Keeper, A: Allocator> WritePath<K, A> {
         memtable: u64,
         above: Key,
         seat: u64,
-        cells: &mut CellMap,
+        cells: &mut Vec<(CellKey, Cell)>,
         some: bool,
     ) -> (Member<K>, Option<bool>)
         requires table { IsOf self.now.table.table.shared.table_id self.now.table.size member }
         requires there { (table.0 < self.now.table.size.tables) × (memtable < 256)
             × (seat < self.now.table.size.seats) }
         requires reads { HasRead table.0 memtable above.0 seat (hands_of member) }
-        requires gathered { HoldsGathered table cells.old some (hands_of member) }
+        requires gathered { HoldsGathered table cells.old.items some (hands_of member) }
         ensures same { Stays self.now.table.table.shared.table_id self.now.table.size member
             result.0 × (boxes_of result.0 ≡ boxes_of member) }
         ensures steps { ReadSteps member.number table.0 (view_of member) (view_of result.0) }
         ensures reads { HasRead table.0 memtable above.0 (suc seat) (hands_of result.0) }
-        ensures gathered { IfSome result.1 (λ some. HoldsGathered table cells.new some
-            (hands_of result.0)) }
+        ensures gathered { IfSome result.1 (λ some. HoldsGathered table cells.new.items
+            some (hands_of result.0)) }
     {
         let mut member = member;
         self.table.take_read(&mut member, table);
@@ -119,18 +129,18 @@ impl<K: Keeper, A: Allocator> WritePath<K, A> {
         table: Table,
         memtable: u64,
         above: Key,
-        cells: &mut CellMap,
+        cells: &mut Vec<(CellKey, Cell)>,
     ) -> (Member<K>, Option<bool>)
         requires table { IsOf self.now.table.table.shared.table_id self.now.table.size member }
         requires there { (table.0 < self.now.table.size.tables) × (memtable < 256) }
         requires reads { HasRead table.0 memtable above.0 0 (hands_of member) }
         requires void { ((q : FlushRead) → (hands_of member).reading ≡ Some q → q.seen ≡ [])
-            × (cells.old ≡ []) }
+            × (cells.old.items ≡ []) }
         ensures same { Stays self.now.table.table.shared.table_id self.now.table.size member
             result.0 × (boxes_of result.0 ≡ boxes_of member) }
         ensures steps { ReadSteps member.number table.0 (view_of member) (view_of result.0) }
-        ensures all { HasGatheredAll self.now.table.size.seats table memtable cells.new result.1
-            (hands_of result.0) }
+        ensures all { HasGatheredAll self.now.table.size.seats table memtable cells.new.items
+            result.1 (hands_of result.0) }
     {
         let mut member = member;
         let mut some = false;
@@ -147,8 +157,8 @@ impl<K: Keeper, A: Allocator> WritePath<K, A> {
         (member, Some(some))
     }
 
-    // Gathers what the boxes of all seats have of a memtable, in cells of their own. The table's turn
-    // is the only one in hand: others sync meanwhile, and flush other tables.
+    // Gathers and merges what the boxes of all seats have of a memtable. The table's turn is the only
+    // one in hand: others sync meanwhile, and flush other tables.
     pub(crate) fn gather_apart(
         &self,
         alloc: Global,
@@ -169,8 +179,8 @@ impl<K: Keeper, A: Allocator> WritePath<K, A> {
         ensures gathered { HasGathered self.now.table.size.seats table memtable result.1
             (hands_of result.0) }
     {
-        let mut cells = CellMap::new(alloc);
+        let mut cells = Vec::new(alloc);
         let (member, some) = self.gather_boxes(alloc, member, table, memtable, above, &mut cells);
-        (member, gathered_of(some, cells))
+        (member, gathered_of(alloc, some, cells))
     }
 }

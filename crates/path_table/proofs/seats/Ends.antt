@@ -43,7 +43,7 @@ use Rattle.path_core.specs.declared.seat.SyncTurn.{SyncTurn}
 use Rattle.path_core.specs.declared.state.PathState.{PathState}
 use Rattle.path_core.specs.Words.{by_of}
 use Rattle.path_core.specs.Keeper.{Holding, HasRisen}
-use Rattle.path_core.specs.Parts.{seat_of}
+use Rattle.path_core.specs.Parts.{HoldsNoTurn, seat_of, seat_table}
 use Rattle.path_core.specs.Runs.{Past}
 use Rattle.path_rule.specs.declared.lasting.Beside.{Beside}
 use Rattle.path_rule.specs.declared.lasting.Lasting.{Lasting}
@@ -68,6 +68,7 @@ use Rattle.path_rule.proofs.moves.Moving.{core_lawful}
 use Rattle.path_rule.proofs.seats.Untaken.{untaken}
 use Rattle.path_table.specs.declared.bounds.TableBounds.{TableBounds}
 use Rattle.path_table.specs.ClosedBounds.{TellsBounds, last_key}
+use Rattle.path_table.proofs.seats.FinalBounds.{NobodyFlushes, bounds_final, fresh_flushes}
 use Rattle.path_table.proofs.seats.LastBounds.{few_newest, last_is}
 
 -- what is set to false, or behind a list's end, reads false
@@ -168,6 +169,27 @@ module _ {K : Type 0} (shows : K → Lasting) (o : Beside) where
       mine = subst (λ ρ. Knows r.core r.events r.owner r.made r.boss id ρ v.part v.trail
           v.returned) role (r.each_seat id v at).1
 
+  -- Where a seat that holds no turn took in all others, nobody holds a table's.
+  none_flushes : (key : PathSize) (id w : ℕ) (v : View) → v.role ≡ Steps w
+      → HasAll key.seats w v.returned → HoldsNoTurn v.part → (s : State (Slot K) View)
+      (r : Ruled shows o key s) → get_elem? s.views id ≡ some v → NobodyFlushes r.core
+  none_flushes key id w v role all unheld s r at z t = dite (dec_lt z key.seats)
+      (λ low. ⊎_elim (λ same. of_seat w same v.part mine.0.2 unheld)
+      (λ (q : (n : ℕ) × (c : Returned) × (get_elem? v.returned n ≡ some c) × (c.number ≡ z)).
+      of_seat q.1.number (sym q.3) q.1.part (mine.1 q.0 q.1 q.2).0.2
+      ((r.tells id v at).free q.0 q.1 q.2))
+      (all z low))
+      (λ high. fresh_flushes (seat_of r.core z) (r.fresh z (let few = r.enough in omega arith)).1 t)
+    where
+      mine : Knows r.core r.events r.owner r.made r.boss id (Steps w) v.part v.trail v.returned
+      mine = subst (λ ρ. Knows r.core r.events r.owner r.made r.boss id ρ v.part v.trail
+          v.returned) role (r.each_seat id v at).1
+
+      of_seat : (k : ℕ) → z ≡ k → (p : Seat) → p ≡ seat_of r.core k → HoldsNoTurn p
+          → (seat_table (seat_of r.core z) t).flush ≡ None
+      of_seat k same p part holds = ap (λ (j : ℕ). (seat_table (seat_of r.core j) t).flush) same
+          ∙ (ap (λ (i : Seat). (seat_table i t).flush) (sym part) ∙ holds.flush t)
+
   -- the words tell of how many memtables there are, and the bounds below the newest ones
   pub few_words : (key : PathSize) (id : ℕ) (v : View) (ws : List ℕ) (xs : List (Slot K))
       → Final (Seen (Ruled shows o key) id v) ws xs
@@ -179,14 +201,16 @@ module _ {K : Type 0} (shows : K → Lasting) (o : Beside) where
   tells_them : (key : PathSize) (id : ℕ) (v : View) (ws : List ℕ) (xs : List (Slot K))
       → (f : Final (Seen (Ruled shows o key) id v) ws xs) → (bounds : TableBounds)
       → ((t : ℕ) → t < 16 → slice_index bounds.keys t ≡ last_key ws t)
-      → TellsBounds f.1.0.core bounds
-  tells_them key id v ws xs f bounds told t inside = let r : Ruled shows o key f.0 = f.1.0 in
+      → NobodyFlushes f.1.0.core → TellsBounds f.1.0.core bounds
+  tells_them key id v ws xs f bounds told free = let r : Ruled shows o key f.0 = f.1.0 in
+      let L = core_lawful shows o key f.0 r in
+      bounds_final r.core L free bounds (λ t inside.
       told t inside ∙ (ap (λ (l : List ℕ). last_key l t) (sym f.2)
-      ∙ last_is r.core (core_lawful shows o key f.0 r) r.rows f.0.words r.words t inside)
+      ∙ last_is r.core L r.rows f.0.words r.words t inside))
 
   pub ends_by : (size key : PathSize) (id w log : ℕ) (keeper : Holding) (v : View) (ws : List ℕ)
       (xs : List (Slot K)) → key ≡ size → v.role ≡ Steps w → HasAll key.seats w v.returned
-      → v.part.sync ≡ None → (f : Final (Seen (Ruled shows o key) id v) ws xs)
+      → HoldsNoTurn v.part → (f : Final (Seen (Ruled shows o key) id v) ws xs)
       → get_elem? ws 4 ≡ some log
       → lasting_of keeper ≡ shown o key.at_open f.1.0.kept_to f.1.0.filed f.1.0.dropped f.1.0.core
       → (bounds : TableBounds)
@@ -216,13 +240,13 @@ module _ {K : Type 0} (shows : K → Lasting) (o : Beside) where
           dropped = r.dropped;
           filing = subst (λ (z : PathSize). HasFiled o z r.core r.filed r.dropped) same r.filing;
           gone = dropped_at_home r.core key r.filed r.dropped r.filing
-              (none_holds key id w v role all unheld s r f.1.1);
+              (none_holds key id w v role all unheld.sync s r f.1.1);
           lasting_is = kept ∙ ap (λ (z : PathSize). shown o z.at_open r.kept_to r.filed r.dropped r.core) same;
           risen = subst (λ (z : PathSize). 0 < r.core.stopped → HasRisen z.at_open r.core.stopped)
               same r.risen;
           each = one s r k (r.tells id v f.1.1);
         },
-        tells_them key id v ws xs f bounds told,
+        tells_them key id v ws xs f bounds told (none_flushes key id w v role all unheld s r f.1.1),
       )
     where
       sized : (x : PathState) (ts : List OwnStep) → TrailTells key.capacity x ts
@@ -276,5 +300,6 @@ module _ {K : Type 0} (shows : K → Lasting) (o : Beside) where
               ((r.unstepped no_step).0 i) ((r.unstepped no_step).1 i) (core i)),
         ),
         subst (λ (x : PathState). TellsBounds x bounds) core
-            (tells_them key id v ws xs f bounds told),
+            (tells_them key id v ws xs f bounds told (λ z.
+            fresh_flushes (seat_of r.core z) (r.fresh z (omega (arith, made))).1)),
       )

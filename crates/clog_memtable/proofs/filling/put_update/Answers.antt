@@ -3,5 +3,5 @@ use Rattle.clog_memtable.proofs.Parts.{nothing_more}
 use Rattle.clog_memtable.proofs.filling.put_update.Goals as goal
 
 pub returns-then-update-table : goal.returns-then-update-table
-returns-then-update-table c = nothing_more c.args.table c.args.cells.now
-    (pair_of c.args.key.now c.args.update) c.if-update-table.true c.requires
+returns-then-update-table c = nothing_more c.args.table c.args.cells.now.items
+    (pair_of c.args.key.now c.args.update) c.if-update-table.true

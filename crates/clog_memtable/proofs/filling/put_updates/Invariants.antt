@@ -1,12 +1,12 @@
 use Rattle.std.proofs.Common.{◌≡◌, ◌++◌, length, map}
-use Rattle.clog_cells.specs.Merge.{IsMerge, part_on}
+use Rattle.clog_cells.specs.Merge.{part_on}
 use Rattle.clog_mutation.specs.Payload.{pair_of}
 use Rattle.clog_memtable.proofs.filling.put_updates.Given as goal
 
--- what was taken is merged, and with what is left it is the whole
+-- what was taken is put, and with what is left it is the whole
 abbrev pub invariant-loop-update : goal.invariant-loop-update
 invariant-loop-update l = record {
-  merged : IsMerge (l.fn.cells ++ part_on l.table (map (pair_of l.key) l.yielded)) l.cells;
+  put : l.cells.items ≡ l.fn.cells.items ++ part_on l.table (map (pair_of l.key) l.yielded);
   parts : l.fn.updates.items ≡ l.yielded ++ l.update-iterator.rest.items;
   count : l.update-iterator.rest.len ≡ length l.update-iterator.rest.items;
 }

@@ -1,7 +1,22 @@
-use Rattle.std.proofs.Common.{◌∷◌, [], ◌++◌, List, ap, sym, ◌∙◌, subst, take, arith}
+use Rattle.std.proofs.Common.{
+  ◌∷◌,
+  [],
+  ◌++◌,
+  List,
+  ap,
+  sym,
+  ◌∙◌,
+  subst,
+  take,
+  arith,
+  Result,
+  Ok,
+  Err,
+  IfOk,
+}
 use Rattle.std.proofs.lemmas.List.{take_all, take_more}
 use Rattle.path_core.specs.declared.note.EntryNote.{EntryNote}
-use Rattle.clog_memtable.specs.Filling.{IsFilled}
+use Rattle.clog_memtable.specs.Filling.{ArePutBy}
 use Rattle.clog_memtable.proofs.Filled.{filled_is, filled_more}
 use Rattle.clog_memtable.proofs.memtable.cells_within.Goals as goal
 
@@ -9,15 +24,22 @@ pub loop-note-preserved : goal.loop-note-preserved
 loop-note-preserved c = let notes = c.args.logged.now in let note = c.note-item.result in
     let whole = c.requires.whole note
     (c.loop-note.note-index, c.loop-note-test.true, sym c.note-item.is) in
-    subst (λ (ns : List EntryNote). IsFilled c.args.interval ns c.put_within.new.cells)
+    subst (λ (ns : List EntryNote). ArePutBy c.args.interval ns c.put_within.new.cells.items)
     (ap (λ (n : EntryNote). take c.loop-note.note-index notes ++ n ∷ []) c.note-item.is
     ∙ sym (take_more notes c.loop-note.note-index note c.loop-note-test.true))
-    (filled_more c.args.interval (take c.loop-note.note-index notes) note c.loop-note.cells
-    c.put_within.new.cells c.loop-note.invariant whole (c.in_ok-put_within.ensures whole))
+    (filled_more c.args.interval (take c.loop-note.note-index notes) note c.loop-note.cells.items
+    c.put_within.new.cells.items c.loop-note.invariant whole (c.in_ok-put_within.ensures whole))
+
+-- what holds of a result follows from what does
+on_ok : {T E : Type 0} (r : Result T E) (P Q : T → Type 0) → ((x : T) → P x → Q x) → IfOk r P
+    → IfOk r Q
+on_ok (Ok x) P Q so h = so x h
+on_ok (Err e) P Q so h = h
 
 pub returns : goal.returns
-returns c h f logged file = let notes = c.args.logged.now in
-    filled_is c.args.interval notes h f logged file c.loop-note.cells
-    (subst (λ (ns : List EntryNote). IsFilled c.args.interval ns c.loop-note.cells)
+returns c h f logged file = let notes = c.args.logged.now in let cells = c.loop-note.cells.items in
+    on_ok c.of_pairs.result _ _ (λ rows.
+    filled_is c.args.interval notes h f logged file cells rows
+    (subst (λ (ns : List EntryNote). ArePutBy c.args.interval ns cells)
     (take_all c.loop-note.note-index notes (omega (arith, c.loop-note-test.false)))
-    c.loop-note.invariant)
+    c.loop-note.invariant)) c.of_pairs.ensures

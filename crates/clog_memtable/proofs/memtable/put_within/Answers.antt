@@ -1,9 +1,9 @@
-use Rattle.std.proofs.Common.{◌++◌, [], List, Bool, if◌then◌else◌, sym, ap, ◌∙◌, subst}
+use Rattle.std.proofs.Common.{◌≡◌, ◌++◌, [], List, Bool, if◌then◌else◌, sym, ap, ◌∙◌, subst}
+use Rattle.std.proofs.lemmas.List.{append-nil}
 use Rattle.std.specs.Prelude.{OnOk}
 use Rattle.clog_base.specs.declared.cell.Cell.{Cell}
 use Rattle.clog_base.specs.declared.cell.CellKey.{CellKey}
-use Rattle.clog_cells.specs.Merge.{IsMerge, part_on}
-use Rattle.clog_cells.proofs.Merging.{none_yet}
+use Rattle.clog_cells.specs.Merge.{part_on}
 use Rattle.clog_mutation.specs.Payload.{cells_of}
 use Rattle.clog_memtable.proofs.memtable.put_within.Goals as goal
 
@@ -11,14 +11,14 @@ pub returns-then-is_within : goal.returns-then-is_within
 returns-then-is_within c whole = let part = part_on c.args.interval.table
     (cells_of whole.mutation) in
     subst (λ (l : List (CellKey × Cell)).
-    OnOk c.put_note.result (IsMerge (c.args.cells.now ++ l) c.put_note.new.cells))
+    OnOk c.put_note.result (c.put_note.new.cells.items ≡ c.args.cells.now.items ++ l))
     (sym (ap (λ (b : Bool). if b then part else [])
     (sym c.is_within.ensures ∙ c.if-is_within.true)))
     (c.put_note.ensures whole)
 
 pub returns : goal.returns
 returns c whole = let part = part_on c.args.interval.table (cells_of whole.mutation) in
-    subst (λ (l : List (CellKey × Cell)). IsMerge (c.args.cells.now ++ l) c.args.cells.now)
+    subst (λ (l : List (CellKey × Cell)). c.args.cells.now.items ≡ c.args.cells.now.items ++ l)
     (sym (ap (λ (b : Bool). if b then part else [])
     (sym c.is_within.ensures ∙ c.if-is_within.false)))
-    (none_yet c.args.cells.now c.requires.ordered)
+    (sym (append-nil c.args.cells.now.items))

@@ -1,6 +1,4 @@
-use Rattle.std.proofs.Common.{sym, ◌∙◌, subst}
-use Rattle.write_path.specs.declared.flush_gathering.Gathered.{Gathered}
-use Rattle.write_path.specs.FlushGathers.{HasGathered}
+use Rattle.std.proofs.Common.{◌∙◌}
 use Rattle.write_path.proofs.FilingGathers.{all_gathered}
 use Rattle.write_path.proofs.seats.WritePath.gather_apart.Goals as goal
 
@@ -17,7 +15,6 @@ returns-clause-holds g c = let G = c.gather_boxes-member.ensures in let H = c.re
 
 pub returns-clause-gathered : goal.returns-clause-gathered
 returns-clause-gathered g c = let G = c.gather_boxes-member in
-    let seats = c.args.self.now.table.size.seats in let h = G.result.0.seat.me.0.hands in
-    subst (λ (k : Gathered). HasGathered seats c.args.table c.args.memtable k h)
-    (sym c.gathered_of.ensures)
-    (all_gathered seats c.args.table c.args.memtable _ G.result.1 h G.ensures.all)
+    let seats = c.args.self.now.table.size.seats in
+    all_gathered seats c.args.table c.args.memtable _ G.result.1 G.result.0.seat.me.0.hands
+    c.gathered_of.result G.ensures.all c.gathered_of.ensures

@@ -123,8 +123,8 @@ returns-clause-reads g c = let H = c.requires.reads in
     c.args.member.seat.me.0.hands c.give_read.new.member.seat.me.0.hands H
     (ap (λ (u : View). u.hands.reading) d.view)
 
-pub gather-done-requires-clause-whole : goal.gather-done-requires-clause-whole
-gather-done-requires-clause-whole g c = let H = c.requires.reads in
+pub gather-done-requires : goal.gather-done-requires
+gather-done-requires g c = let H = c.requires.reads in
     let D = c.take_read.ensures.step H.read H.reads in let L = c.lend_read-member.ensures in
     let seats = c.args.self.now.table.size.seats in
     let box = the_box seats c.args.table.0 c.args.memtable c.args.above.0 c.args.seat
@@ -136,10 +136,6 @@ gather-done-requires-clause-whole g c = let H = c.requires.reads in
     let T = subst (λ (l : List EntryNote). IsTrimmed c.args.above.0 l c.trim.new.notes) lent
     c.trim.ensures in
     λ n in_left. D.2.3 n (left_held c.args.above.0 D.0 c.trim.new.notes T n in_left)
-
-pub gather-done-requires-clause-gathered : goal.gather-done-requires-clause-gathered
-gather-done-requires-clause-gathered g c = let H = c.requires.reads in
-    (H.read.seen, (c.requires.gathered H.read H.reads).0)
 
 pub returns-clause-gathered : goal.returns-clause-gathered
 returns-clause-gathered g c = let H = c.requires.reads in
@@ -158,10 +154,10 @@ returns-clause-gathered g c = let H = c.requires.reads in
     (ap (λ (u : View). u.hands.reading) (R.same.1 ∙ (L.same.1 ∙ D.1.view))) in
     let G = c.requires.gathered H.read H.reads in
     subst (λ (o : Option Bool). IfSome o
-    (λ k. HoldsGathered c.args.table c.gather-done.new.cells k after))
+    (λ k. HoldsGathered c.args.table c.gather-done.new.cells.items k after))
     (sym c.told_some.ensures)
     (box_gathered c.args.table H.read.seen left (λ (n : EntryNote). nat_lt above n.end.0)
-    c.gather-done.new.cells c.args.some c.found_some-some.result after c.gather-done.result
+    c.gather-done.new.cells.items c.args.some c.found_some-some.result after c.gather-done.result
     (λ q has. seen_is c.args.table.0 c.args.memtable above c.args.seat b D.0 left h after H
     (ap (λ (u : View). u.hands.reading) d.view) T q has)
     (c.gather-done.ensures H.read.seen G.0) G.1
