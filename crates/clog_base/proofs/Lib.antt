@@ -1,5 +1,6 @@
 pub mod CrcBlocks
 pub mod CrcTable
+pub mod Follows
 pub mod Members
 pub mod NameLaws
 pub mod Names

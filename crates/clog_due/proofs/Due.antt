@@ -19,7 +19,7 @@ use Rattle.std.proofs.Common.{
   inr,
   arith,
 }
-use Rattle.std.specs.Prelude.{◌↔◌, ◌⊎◌, Contains, IfOk, IsTrue, Result, Ok, Err}
+use Rattle.std.specs.Prelude.{◌↔◌, ◌⊎◌, Contains, IsTrue}
 use Rattle.std.specs.BTreeMap.{is_at}
 use Rattle.std.specs.BTreeSet.{BTreeSet, Updates, contains}
 use Rattle.std.specs.Cmp.{unsigned_tied}
@@ -154,8 +154,3 @@ module _ (h : Holding) (placed : ArePlaced h.logged) where
         λ is_due. (picked.exact o).1 (goes_of o is_due),
       );
     }
-
-pub if_ok_then : {A E : Type 0} {P Q : A → Type 0} (result : Result A E) → IfOk result P
-    → ((x : A) → P x → Q x) → IfOk result Q
-if_ok_then (Ok x) p weaker = weaker x p
-if_ok_then (Err e) p weaker = tt

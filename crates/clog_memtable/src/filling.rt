@@ -11,8 +11,21 @@ use clog_mutation::{Mutation, Update, decode};
 use path_core::EntryNote;
 use std::alloc::Global;
 
-// Puts what an update says behind other cells, if it is of the table.
-fn put_update(
+// Puts what an update says under a key behind other cells.
+fn put_under(cells: &mut Vec<(CellKey, Cell)>, key: Text, update: Update) -> Result<(), OutOfMemory>
+    ensures { OnOk result (cells.new.items ≡ cells.old.items ++ pair_of key update ∷ []) }
+{
+    let Update {
+        table,
+        column,
+        cell,
+    } = update;
+    cells.push((CellKey { table, key, column }, cell))?;
+    Ok(())
+}
+
+// Puts what an update says under a copy of a key, if it is of the table.
+fn put_copied(
     alloc: Global,
     cells: &mut Vec<(CellKey, Cell)>,
     table: Table,
@@ -25,13 +38,23 @@ fn put_update(
     if update.table.0 != table.0 {
         return Ok(());
     }
-    let key = CellKey {
-        table: update.table,
-        key: Text::copy_of(alloc, key.as_str())?,
-        column: update.column,
-    };
-    cells.push((key, update.cell))?;
-    Ok(())
+    put_under(cells, Text::copy_of(alloc, key.as_str())?, update)
+}
+
+// Puts what the last update says under the key itself, if it is of the table.
+fn put_last(
+    cells: &mut Vec<(CellKey, Cell)>,
+    table: Table,
+    key: Text,
+    update: Update,
+) -> Result<(), OutOfMemory>
+    ensures { OnOk result (cells.new.items
+        ≡ cells.old.items ++ part_on table (pair_of key update ∷ [])) }
+{
+    if update.table.0 != table.0 {
+        return Ok(());
+    }
+    put_under(cells, key, update)
 }
 
 // Puts those of the updates under a key that are of the table.
@@ -46,12 +69,13 @@ fn put_updates(
         ≡ cells.old.items ++ part_on table (map (pair_of key.now) updates.items)) }
 {
     for update in updates {
-        put_update(alloc, cells, table, key, update)?;
+        put_copied(alloc, cells, table, key, update)?;
     }
     Ok(())
 }
 
-// Puts the cells of a mutation that are of the table.
+// Puts the cells of a mutation that are of the table. The last one takes the key itself, so that
+// nothing is copied of a mutation of one update.
 fn put_mutation(
     alloc: Global,
     cells: &mut Vec<(CellKey, Cell)>,
@@ -62,7 +86,12 @@ fn put_mutation(
         ≡ cells.old.items ++ part_on table (cells_of mutation)) }
 {
     let Mutation { key, updates } = mutation;
-    put_updates(alloc, cells, table, &key, updates.into_vec())
+    let mut updates = updates.into_vec();
+    let Some(last) = updates.pop() else {
+        return Ok(());
+    };
+    put_updates(alloc, cells, table, &key, updates)?;
+    put_last(cells, table, key, last)
 }
 
 /// Puts the cells of an entry that are of the table behind others.

@@ -13,7 +13,7 @@ use Rattle.std.proofs.Common.{
   refl,
   arith,
 }
-use Rattle.std.specs.Prelude.{Err, IfOk, Ok, OnOk, Result, is_some}
+use Rattle.std.specs.Prelude.{is_some}
 use Rattle.std.proofs.lemmas.Bool.{true≢false}
 use Rattle.clog_io.specs.Causes.{Rose}
 
@@ -23,16 +23,6 @@ pub no_fewer : (stopped : Bool) (at_open now : ℕ) → at_open < 18446744073709
 no_fewer true at_open now fits quiet risen =
     let rose = risen refl in omega (arith, fits, rose)
 no_fewer false at_open now fits quiet risen = let same = quiet refl in omega (arith, same)
-
--- what follows at Ok
-pub at_ok : {R E : Type 0} (r : Result R E) (P Q : R → Type 0) → IfOk r P
-    → ((x : R) → P x → Q x) → IfOk r Q
-at_ok (Ok x) P Q is so = so x is
-at_ok (Err e) P Q is so = tt
-
-pub on_ok : {R E : Type 0} (r : Result R E) (P Q : Type 0) → OnOk r P → (P → Q) → OnOk r Q
-on_ok (Ok x) P Q is so = so is
-on_ok (Err e) P Q is so = tt
 
 -- a store that has not stopped
 pub runs_on : (stopped : Bool) (P : Type 0) → (stopped ≡ true → P) → (P → ⊥) → stopped ≡ false

@@ -278,16 +278,6 @@ pub on_ok_with : {A : Type 0} (r : Result A KeeperFault) (P Q : Type 0) (before 
 on_ok_with (Ok a) P Q before now is f h = f is h
 on_ok_with (Err e) P Q before now is f h = h
 
-pub on_ok : {A E : Type 0} (r : Result A E) (P Q : Type 0) → (P → Q)
-    → OnOk r P → OnOk r Q
-on_ok (Ok a) P Q f h = f h
-on_ok (Err e) P Q f h = h
-
-pub on_err : {A E : Type 0} (r : Result A E) (P Q : Type 0) → (P → Q)
-    → OnErr r P → OnErr r Q
-on_err (Ok a) P Q f h = h
-on_err (Err e) P Q f h = f h
-
 -- a keeper that has stopped tells its counts
 pub tells_at : {T : Type 0} (r : Result T KeeperFault) (opened : ℕ) → TellsFaults opened r
     → {fault : KeeperFault} → r ≡ Err fault → {at_open count : ℕ} → fault ≡ Stopped at_open count

@@ -16,7 +16,7 @@ use Rattle.std.specs.Prelude.{is_some}
 use Rattle.write_path.specs.declared.switch.Row.TheVariants as row
 use Rattle.clog_writers.specs.Left.{LeavesShares, WritesShares, least_of}
 use Rattle.clog_writers.specs.Written.{HasShareCause}
-use Rattle.clog_writers.proofs.Told.{at_ok}
+use Rattle.clog_base.proofs.Follows.{if_ok}
 use Rattle.clog_engine.specs.declared.status.Status.{Status}
 use Rattle.clog_engine.specs.Logged.{LinesRefuse}
 use Rattle.clog_engine.specs.Outside.{outside_with}
@@ -157,7 +157,7 @@ pub told-requires-clause-room : goal.told-requires-clause-room
 told-requires-clause-room g c =
     let pending = c.in-Ok-pending.pending in
     let planned = c.requires.planned in
-    at_ok c.write_plan-disk.result.1 _ (λ told. HasRoomFor (length told.items) pending)
+    if_ok c.write_plan-disk.result.1 _ (λ told. HasRoomFor (length told.items) pending)
     (c.write_plan-disk.ensures.receipts planned.0 planned.1.plan) (λ told so.
     let long = so.long in
     let many = planned.1.plan.receipts in

@@ -14,8 +14,8 @@ loop-update-init c = record {
 pub loop-update-preserved : goal.loop-update-preserved
 loop-update-preserved c = record {
   put = one_update c.args.table c.args.key.now c.args.cells.now.items c.loop-update.cells.items
-      c.put_update.new.cells.items c.loop-update.yielded c.in-Some.update
-      c.loop-update.invariant.put c.in_ok-put_update.ensures;
+      c.put_copied.new.cells.items c.loop-update.yielded c.in-Some.update
+      c.loop-update.invariant.put c.in_ok-put_copied.ensures;
   parts = c.loop-update.invariant.parts
       ∙ ap (λ (l : List Update). c.loop-update.yielded ++ l) c.in-Some.ensures.steps.0
       ∙ sym (append_assoc c.loop-update.yielded (c.in-Some.update ∷ []) c.next.new.self.rest.items);

@@ -9,23 +9,17 @@ use Rattle.std.proofs.Common.{
   true,
   false,
   List,
-  Result,
-  Ok,
-  Err,
   OnOk,
   sym,
   subst,
 }
 use Rattle.std.proofs.lemmas.Bool.{le-ltb, lt-ltb, true≢false}
 use Rattle.std.proofs.lemmas.List.{append-nil}
+use Rattle.clog_base.proofs.Follows.{on_ok}
 use Rattle.path_core.specs.declared.note.EntryNote.{EntryNote}
 use Rattle.clog_memtable.specs.Gathering.{AreCellsOf}
 use Rattle.clog_memtable.proofs.Gathered.{gathered_more}
 use Rattle.clog_memtable.proofs.gathering.put_above.Goals as goal
-
-on_ok : {T E : Type 0} (r : Result T E) (P Q : Type 0) → (P → Q) → OnOk r P → OnOk r Q
-on_ok (Ok x) P Q f h = f h
-on_ok (Err e) P Q f h = h
 
 pub returns-then-note-above : goal.returns-then-note-above
 returns-then-note-above c = λ before G. let n = c.args.note.now in let w = c.requires in
@@ -33,8 +27,8 @@ returns-then-note-above c = λ before G. let n = c.args.note.now in let w = c.re
     subst (λ (b : Bool). OnOk c.put_note.result
     (AreCellsOf c.args.table (before ++ cond b (n ∷ []) []) cells))
     (sym (lt-ltb c.args.above.0 n.end.0 c.if-note-above.true))
-    (on_ok c.put_note.result _ _
-    (gathered_more c.args.table before n c.args.cells.now.items cells G w) (c.put_note.ensures w))
+    (on_ok c.put_note.result _ _ (c.put_note.ensures w)
+    (gathered_more c.args.table before n c.args.cells.now.items cells G w))
 
 -- an entry that does not pass adds nothing
 none_more : (b : Bool) (n : EntryNote) (l : List EntryNote) → b ≡ false → l ≡ l ++ cond b (n ∷ []) []

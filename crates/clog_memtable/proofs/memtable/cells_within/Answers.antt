@@ -9,12 +9,9 @@ use Rattle.std.proofs.Common.{
   subst,
   take,
   arith,
-  Result,
-  Ok,
-  Err,
-  IfOk,
 }
 use Rattle.std.proofs.lemmas.List.{take_all, take_more}
+use Rattle.clog_base.proofs.Follows.{if_ok}
 use Rattle.path_core.specs.declared.note.EntryNote.{EntryNote}
 use Rattle.clog_memtable.specs.Filling.{ArePutBy}
 use Rattle.clog_memtable.proofs.Filled.{filled_is, filled_more}
@@ -30,16 +27,10 @@ loop-note-preserved c = let notes = c.args.logged.now in let note = c.note-item.
     (filled_more c.args.interval (take c.loop-note.note-index notes) note c.loop-note.cells.items
     c.put_within.new.cells.items c.loop-note.invariant whole (c.in_ok-put_within.ensures whole))
 
--- what holds of a result follows from what does
-on_ok : {T E : Type 0} (r : Result T E) (P Q : T → Type 0) → ((x : T) → P x → Q x) → IfOk r P
-    → IfOk r Q
-on_ok (Ok x) P Q so h = so x h
-on_ok (Err e) P Q so h = h
-
 pub returns : goal.returns
 returns c h f logged file = let notes = c.args.logged.now in let cells = c.loop-note.cells.items in
-    on_ok c.of_pairs.result _ _ (λ rows.
+    if_ok c.of_pairs.result _ _ c.of_pairs.ensures (λ rows.
     filled_is c.args.interval notes h f logged file cells rows
     (subst (λ (ns : List EntryNote). ArePutBy c.args.interval ns cells)
     (take_all c.loop-note.note-index notes (omega (arith, c.loop-note-test.false)))
-    c.loop-note.invariant)) c.of_pairs.ensures
+    c.loop-note.invariant))

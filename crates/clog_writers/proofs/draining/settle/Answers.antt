@@ -10,7 +10,7 @@ use Rattle.clog_closing.specs.Drained.{Drains, ReachTo}
 use Rattle.clog_closing.proofs.Begins.{begun_of_none}
 use Rattle.clog_writers.specs.Settled.{Settles}
 use Rattle.clog_writers.proofs.Settling.{hold_notes, may_put, reach_there, settles}
-use Rattle.clog_writers.proofs.Told.{on_ok}
+use Rattle.clog_base.proofs.Follows.{on_ok}
 use Rattle.clog_writers.proofs.draining.settle.Goals as goal
 
 pub left_to_put-requires : goal.left_to_put-requires

@@ -34,7 +34,8 @@ use Rattle.clog_writers.proofs.Crashing.{history, says}
 use Rattle.clog_writers.proofs.Ended.{written}
 use Rattle.clog_writers.proofs.LeftBy.{all_last, least_reached, left_by}
 use Rattle.clog_writers.proofs.Running.{written_back}
-use Rattle.clog_writers.proofs.Told.{at_ok, no_fewer, none_of, runs_on}
+use Rattle.clog_base.proofs.Follows.{if_ok}
+use Rattle.clog_writers.proofs.Told.{no_fewer, none_of, runs_on}
 use Rattle.clog_writers.proofs.writing.write_plan.Goals as goal
 
 pub log_shares-store-requires-clause-fresh : goal.log_shares-store-requires-clause-fresh
@@ -133,7 +134,7 @@ returns-clause-receipts g c = λ ms plan.
     let lent : length xs ≡ length c.args.plan.receipts.items =
     put.long ∙ ap length c.as_mut_slice.ensures.value in
     let back = written_back c.args.plan.receipts.len xs _ (c.args.plan.receipts.ok.0 ∙ sym lent) in
-    at_ok c.ended-outcome.result _
+    if_ok c.ended-outcome.result _
     (λ r. HasReceipts c.args.sizes c.args.store.notes.base ms r.items)
     c.ended-outcome.ensures.ok (λ r so.
     subst (λ (l : List Receipt). HasReceipts c.args.sizes c.args.store.notes.base ms l)
@@ -199,7 +200,7 @@ returns-clause-shown g c = λ ms opened plan is lasted.
     shares.beside settled.keeps settled.first told.grown c.disks_tell_both.ensures) a.notes.base
     (is_some f) a.archives c.args.drain sizes.writers (least_of c.ended-outcome.result ms) ms held
     (least_reached c.ended-outcome.result ms (lasting_in e.notes.log)
-    (at_ok c.ended-outcome.result _ (λ receipts. length ms ≤ lasting_in e.notes.log)
+    (if_ok c.ended-outcome.result _ (λ receipts. length ms ≤ lasting_in e.notes.log)
     c.ended-outcome.ensures.ok (λ receipts so. all_last e.notes told.notes told.stored sizes ms held
     (logs (settled.ok so.1).0).notes))) has.0
     (λ plain beyond. elim (has.1 plain) [
@@ -293,7 +294,7 @@ returns-clause-written g c = λ ms options opened made plan asked is made_is.
     subst (λ (d : g.row.D.Denot). IfOk c.ended-outcome.result (λ receipts.
     TellsWrittenShares options a.notes.base opened made (D.files d) (D.changes d) ms
     receipts.items)) (sym told.disk)
-    (at_ok c.ended-outcome.result _ (λ receipts. TellsWrittenShares options a.notes.base opened
+    (if_ok c.ended-outcome.result _ (λ receipts. TellsWrittenShares options a.notes.base opened
     made (D.files e.notes.log.disk) (D.changes e.notes.log.disk) ms receipts.items)
     c.ended-outcome.ensures.ok (λ receipts so.
     let done = settled.ok so.1 in

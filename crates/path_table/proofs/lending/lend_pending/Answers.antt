@@ -1,5 +1,6 @@
 use Rattle.std.proofs.Common.{List, sym, subst}
 use Rattle.std.specs.List.Sorted.{IsPermutation}
+use Rattle.clog_base.proofs.Follows.{on_err, on_ok}
 use Rattle.path_core.specs.declared.note.EntryNote.{EntryNote}
 use Rattle.path_core.specs.Keeper.{Syncs, SyncRefused}
 use Rattle.path_rule.specs.Desks.{pending_on}
@@ -9,8 +10,6 @@ use Rattle.path_rule.proofs.boxes.DeskLent.{
   may_sync,
   synced_of,
   refused_of,
-  on_ok,
-  on_err,
   tells_faults,
   stops_by,
 }
@@ -36,11 +35,11 @@ returns-clause-syncs g c =
     c.in_ok-move_all.ensures.moved c.in_ok-move_all.ensures.all)
     c.order_by_end.ensures.same in
     let left = c.sync.new.pending.items in
-    on_ok c.sync.result _ _ (λ S. subst (λ (l : List EntryNote).
+    on_ok c.sync.result _ _ c.sync.ensures.syncs (λ S. subst (λ (l : List EntryNote).
     Syncs (holds c.args.desk.now.keeper) (holds c.sync.new.self) c.args.upto pending l)
     (sym (none_behind left c.move_all.new.gathered c.in_ok-move_all.ensures.moved))
     (synced_of (holds c.args.desk.now.keeper) c.args.upto pending sorted same
-    (holds c.sync.new.self) left S)) c.sync.ensures.syncs
+    (holds c.sync.new.self) left S))
 
 pub returns-clause-refused : goal.returns-clause-refused
 returns-clause-refused g c =
@@ -52,11 +51,11 @@ returns-clause-refused g c =
     c.in_ok-move_all.ensures.moved c.in_ok-move_all.ensures.all)
     c.order_by_end.ensures.same in
     let left = c.sync.new.pending.items in
-    on_err c.sync.result _ _ (λ S. subst (λ (l : List EntryNote).
+    on_err c.sync.result _ _ c.sync.ensures.refused (λ S. subst (λ (l : List EntryNote).
     SyncRefused (holds c.args.desk.now.keeper) (holds c.sync.new.self) c.args.upto pending l)
     (sym (none_behind left c.move_all.new.gathered c.in_ok-move_all.ensures.moved))
     (refused_of (holds c.args.desk.now.keeper) c.args.upto pending sorted same
-    (holds c.sync.new.self) left S)) c.sync.ensures.refused
+    (holds c.sync.new.self) left S))
 
 pub returns-clause-counts : goal.returns-clause-counts
 returns-clause-counts g c =

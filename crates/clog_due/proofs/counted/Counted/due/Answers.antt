@@ -1,15 +1,16 @@
 use Rattle.std.proofs.Common.{ℕ, List, Contains, subst}
 use Rattle.std.specs.Prelude.{◌↔◌}
+use Rattle.clog_base.proofs.Follows.{if_ok}
 use Rattle.clog_due.specs.declared.table_log.TableLog.{TableLog}
 use Rattle.clog_due.specs.Dropping.{ArePicked, IsClosedAndGoes}
-use Rattle.clog_due.proofs.Due.{due_is, if_ok_then}
+use Rattle.clog_due.proofs.Due.{due_is}
 use Rattle.clog_due.proofs.counted.Counted.due.Goals as goal
 
 pub returns : goal.returns
 returns c h placed counted kept =
     let held = c.in_ok-held.held in
     let other = c.in_ok-kept.kept in
-    if_ok_then c.all_due.result c.all_due.ensures (λ due picked.
+    if_ok c.all_due.result _ _ c.all_due.ensures (λ due picked.
     due_is h placed c.args.closed held other c.args.self.now counted
     (subst (λ (l : List ℕ). (o : ℕ) → Contains held.keys o ↔ Contains l o)
     c.deref.ensures.value c.in_ok-held.ensures)

@@ -1,10 +1,10 @@
 use Rattle.std.proofs.Common.{sym, subst, ◌∙◌}
 use Rattle.std.specs.Prelude.{IfOk, Result}
 use Rattle.clog_base.specs.declared.fault.OutOfMemory.{OutOfMemory}
+use Rattle.clog_base.proofs.Follows.{if_ok}
 use Rattle.clog_due.specs.declared.counted.Counted.{Counted}
 use Rattle.clog_due.specs.Counting.{IsCounted, IsCountedIn}
 use Rattle.clog_segments.specs.StoreState.{StoreState}
-use Rattle.clog_due.proofs.Due.{if_ok_then}
 use Rattle.clog_due.proofs.HeldSegments.{counted_none}
 use Rattle.clog_store.proofs.store.Store.take_counted.Goals.{in-None, in-Some}
 use Rattle.clog_store.proofs.store.Store.take_counted.Goals as goal
@@ -22,6 +22,6 @@ returns-clause-counted g c =
           (sym c.take.ensures.value ∙ w.in-Some.is) c.self.invariant.3))
       | in-None w ↦ subst (λ (r : Result Counted OutOfMemory).
           IfOk r (IsCounted s.notes.logged s.files s.dropped)) (sym w.result-is)
-          (if_ok_then w.nothing.result w.nothing.ensures (λ x all.
-          counted_none s.notes.logged s.files s.dropped x all))
+          (if_ok w.nothing.result _ _ w.nothing.ensures
+          (counted_none s.notes.logged s.files s.dropped))
     ]

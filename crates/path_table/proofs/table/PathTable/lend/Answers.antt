@@ -6,12 +6,12 @@ use Rattle.path_rule.specs.declared.lasting.Lasting.{Lasting}
 use Rattle.path_rule.specs.declared.slot.Slot.{Slot}
 use Rattle.path_rule.specs.Boxes.{desk_box}
 use Rattle.path_rule.specs.SyncEnd.{stopped_by, TellsFaults}
+use Rattle.clog_base.proofs.Follows.{on_err}
 use Rattle.path_rule.proofs.boxes.DeskLent.{
   on_desk,
   lent_synced,
   lent_refused,
   on_ok_with,
-  on_err,
 }
 use Rattle.path_table.proofs.table.PathTable.lend.Goals as goal
 
@@ -38,7 +38,7 @@ returns-clause-synced g c = let m = c.args.member in
 
 pub returns-clause-refused : goal.returns-clause-refused
 returns-clause-refused g c = let m = c.args.member in
-    on_err c.lend_pending-done.result _ _ (λ S. (
+    on_err c.lend_pending-done.result _ _ c.lend_pending-done.ensures.refused (λ S. (
       lent_refused g.K.Keeper.holds c.in-Turn.desk c.lend_pending-done.new.desk m.seat.me
           c.args.upto c.requires.desk
           (c.slot_mut.ensures.value
@@ -47,7 +47,7 @@ returns-clause-refused g c = let m = c.args.member in
           (λ o. stopped_by o c.lend_pending-done.result)
           c.lend_pending-done.ensures.stopped S,
       refl,
-    )) c.lend_pending-done.ensures.refused
+    ))
 
 pub returns-clause-counts : goal.returns-clause-counts
 returns-clause-counts g c = let m = c.args.member in

@@ -5,7 +5,8 @@ use Rattle.path_rule.specs.declared.slot.Slot.{Slot}
 use Rattle.path_rule.specs.Boxes.{desk_box}
 use Rattle.path_rule.specs.SyncEnd.{stopped_by, TellsFaults}
 use Rattle.path_rule.proofs.boxes.DeskFiled.{desk_filed, desk_refused, desk_undropped}
-use Rattle.path_rule.proofs.boxes.DeskLent.{on_desk, on_err, on_ok_with}
+use Rattle.clog_base.proofs.Follows.{on_err}
+use Rattle.path_rule.proofs.boxes.DeskLent.{on_desk, on_ok_with}
 use Rattle.path_table.proofs.table.PathTable.put_table.Goals as goal
 
 pub publish_on-done-requires : goal.publish_on-done-requires
@@ -35,7 +36,7 @@ returns-clause-refused g c = let m = c.args.member in let P = c.publish_on-done.
     let top = c.slot_mut.ensures.value
     ∙ ap (λ (y : Slot _). (desk_box, y) ∷ rest m.seat.me.1) c.in-Turn.is in
     let D = on_desk g.K.Keeper.holds c.in-Turn.desk m.seat.me c.requires.desk top in
-    on_err r _ _ (λ S. desk_refused g.K.Keeper.holds c.in-Turn.desk c.publish_on-done.new.desk
+    on_err r _ _ P.refused (λ S. desk_refused g.K.Keeper.holds c.in-Turn.desk c.publish_on-done.new.desk
     m.seat.me c.requires.desk top P.same.0 P.same.1 S.1
     (stopped_by m.seat.me.0.hands.lasting.stopped r)
     (P.stopped ∙ ap (λ (l : Lasting). stopped_by l.stopped r) D.0) (record {
@@ -43,7 +44,7 @@ returns-clause-refused g c = let m = c.args.member in let P = c.publish_on-done.
       lower = c.args.lower.0;
       upper = c.args.upper.0;
       cells = c.args.cells.now;
-    }) S.0) P.refused
+    }) S.0)
 
 pub returns-clause-counts : goal.returns-clause-counts
 returns-clause-counts g c = let m = c.args.member in
@@ -59,7 +60,7 @@ returns-clause-undropped g c = let m = c.args.member in let P = c.publish_on-don
     let top = c.slot_mut.ensures.value
     ∙ ap (λ (y : Slot _). (desk_box, y) ∷ rest m.seat.me.1) c.in-Turn.is in
     let D = on_desk g.K.Keeper.holds c.in-Turn.desk m.seat.me c.requires.desk top in
-    on_err r _ _ (λ S. desk_undropped g.K.Keeper.holds c.in-Turn.desk c.publish_on-done.new.desk
+    on_err r _ _ P.refused (λ S. desk_undropped g.K.Keeper.holds c.in-Turn.desk c.publish_on-done.new.desk
     m.seat.me c.requires.desk top P.same.0 P.same.1 S.1
     (stopped_by m.seat.me.0.hands.lasting.stopped r)
     (P.stopped ∙ ap (λ (l : Lasting). stopped_by l.stopped r) D.0) (record {
@@ -67,4 +68,4 @@ returns-clause-undropped g c = let m = c.args.member in let P = c.publish_on-don
       lower = c.args.lower.0;
       upper = c.args.upper.0;
       cells = c.args.cells.now;
-    }) S.0) P.refused
+    }) S.0)
