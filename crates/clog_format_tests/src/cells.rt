@@ -145,6 +145,31 @@ fn merged_rows_ascend_by_table_key_and_column(rt: HostRuntime) -> Result<(), Fai
     Ok(())
 }
 
+// An older cell stands behind a newer one of its key.
+const PAIRS: [(u8, &str, &str, &str); 5] = [
+    (1, "a", "a", "1"),
+    (0, "a", "b", "b"),
+    (0, "b", "a", "2"),
+    (0, "a", "b", "a"),
+    (0, "a", "ab", "4"),
+];
+
+#[test]
+fn a_map_of_pairs_has_the_newest_of_each_key(rt: HostRuntime) -> Result<(), Fail> {
+    let alloc = rt.alloc();
+    let mut pairs = Vec::new(alloc);
+    for (table, name, column, value) in &PAIRS {
+        let cell = cell(alloc, 9, Kind::Live, value)?;
+        pairs.push((key(alloc, *table, name, column)?, cell))?;
+    }
+    let rows = CellMap::of_pairs(alloc, pairs)?.rows()?;
+    assert_eq!(rt; rows.len(), 4);
+    for (i, wanted) in MERGED.iter().enumerate() {
+        is_row(&rt, rows.get(i), wanted);
+    }
+    Ok(())
+}
+
 // How many cells are taken off below a table, and how many are left.
 fn taken(cells: &mut CellMap, below: u8) -> Result<(usize, usize), Fail> {
     let taken = cells.take_below(Table(below))?;
