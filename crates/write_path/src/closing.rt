@@ -27,8 +27,8 @@ use std::thread::Threads;
 pub struct Outcome {
     /// Where the log ends.
     pub end: Key,
-    /// Of each table up to which key its memtables were switched: the bound of the memtable below
-    /// the newest one, key 0 where there is none.
+    /// Of each table up to which key its memtables were switched: the final bound of the memtable
+    /// below the newest one, key 0 where there is none.
     pub bounds: TableBounds,
 }
 
