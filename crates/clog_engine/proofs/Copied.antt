@@ -1,4 +1,4 @@
--- Lent mutations are merged one after another.
+-- Copies of lent mutations are put one behind another.
 use Rattle.std.proofs.Common.{
   ◌≡◌,
   ℕ,
@@ -15,23 +15,19 @@ use Rattle.std.proofs.Common.{
   sym,
   ◌∙◌,
   ap,
-  subst,
+  append_assoc,
 }
 use Rattle.std.specs.List.{flat_map}
-use Rattle.std.specs.List.Sorted.{IsStrictlySortedBy}
-use Rattle.std.proofs.lemmas.List.{take_more}
+use Rattle.std.proofs.lemmas.Grind.{flat_map-append}
+use Rattle.std.proofs.lemmas.List.{append-nil, map-append, take_more}
 use Rattle.clog_base.specs.declared.cell.Cell.{Cell}
 use Rattle.clog_base.specs.declared.cell.CellKey.{CellKey}
-use Rattle.clog_cells.specs.Merge.{AreInOrder, IsMerge}
 use Rattle.clog_mutation.specs.declared.mutation.Update.{Update}
 use Rattle.clog_mutation.specs.declared.mutation.Mutation.{Mutation}
 use Rattle.clog_mutation.specs.Payload.{pair_of, cells_of}
-use Rattle.clog_engine.proofs.Merged.{mutation_more, update_more}
 
--- no cells are in order
-pub none_ordered : AreInOrder []
-unfolding IsStrictlySortedBy
-none_ordered = tt
+abbrev Pairs : Type 0
+Pairs = List (CellKey × Cell)
 
 taken : {A : Type 0} (xs : List A) (i : ℕ) (x : A) → i < length xs → x ≡ get_or xs i x
     → take i xs ++ x ∷ [] ≡ take (i + 1) xs
@@ -39,22 +35,24 @@ taken {A} xs i x inside is =
     sym (take_more xs i x inside ∙ ap (λ (y : A). take i xs ++ y ∷ []) (sym is))
 
 -- one update more
-pub update_next : (old merged new : List (CellKey × Cell)) (key : List ℕ) (us : List Update)
-    (i : ℕ) (u : Update) → i < length us → u ≡ get_or us i u
-    → IsMerge (old ++ map (pair_of key) (take i us)) merged
-    → IsMerge (merged ++ pair_of key u ∷ []) new
-    → IsMerge (old ++ map (pair_of key) (take (i + 1) us)) new
-update_next old merged new key us i u inside is so_far step =
-    subst (λ (l : List Update). IsMerge (old ++ map (pair_of key) l) new) (taken us i u inside is)
-    (update_more old merged new key (take i us) u so_far step)
+pub update_next : (old put new : Pairs) (key : List ℕ) (us : List Update) (i : ℕ) (u : Update)
+    → i < length us → u ≡ get_or us i u → put ≡ old ++ map (pair_of key) (take i us)
+    → new ≡ put ++ pair_of key u ∷ [] → new ≡ old ++ map (pair_of key) (take (i + 1) us)
+update_next old put new key us i u inside is so_far step =
+    let front = map (pair_of key) (take i us) in let last = pair_of key u ∷ [] in
+    step ∙ ap (λ (l : Pairs). l ++ last) so_far ∙ append_assoc old front last
+    ∙ ap (λ (l : Pairs). old ++ l) (sym (map-append (pair_of key) (take i us) (u ∷ []))
+    ∙ ap (map (pair_of key)) (taken us i u inside is))
 
 -- one mutation more
-pub mutation_next : (merged new : List (CellKey × Cell)) (ms : List Mutation) (i : ℕ)
-    (m : Mutation) (updates : List Update) → i < length ms → m ≡ get_or ms i m
-    → IsMerge (flat_map cells_of (take i ms)) merged → updates ≡ m.updates
-    → IsMerge (merged ++ map (pair_of m.key) updates) new
-    → IsMerge (flat_map cells_of (take (i + 1) ms)) new
-mutation_next merged new ms i m updates inside is so_far lent step =
-    subst (λ (l : List Mutation). IsMerge (flat_map cells_of l) new) (taken ms i m inside is)
-    (mutation_more [] merged new (take i ms) m so_far
-    (subst (λ (us : List Update). IsMerge (merged ++ map (pair_of m.key) us) new) lent step))
+pub mutation_next : (put new : Pairs) (ms : List Mutation) (i : ℕ) (m : Mutation)
+    (updates : List Update) → i < length ms → m ≡ get_or ms i m
+    → put ≡ flat_map cells_of (take i ms) → updates ≡ m.updates
+    → new ≡ put ++ map (pair_of m.key) updates → new ≡ flat_map cells_of (take (i + 1) ms)
+mutation_next put new ms i m updates inside is so_far lent step =
+    let front = flat_map cells_of (take i ms) in
+    step ∙ ap (λ (l : Pairs). l ++ map (pair_of m.key) updates) so_far
+    ∙ ap (λ (us : List Update). front ++ map (pair_of m.key) us) lent
+    ∙ ap (λ (l : Pairs). front ++ l) (sym (append-nil (cells_of m)))
+    ∙ sym (flat_map-append cells_of (take i ms) (m ∷ []))
+    ∙ ap (flat_map cells_of) (taken ms i m inside is)

@@ -7,7 +7,6 @@ pub mod FewMutations
 pub mod GoodInput
 pub mod Images
 pub mod MadeLines
-pub mod Merged
 pub mod Onward
 pub mod Opened
 pub mod PrintedParts

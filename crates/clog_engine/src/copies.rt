@@ -1,8 +1,8 @@
 //! The cells that lent mutations merge to: copies of theirs, since the mutations go on to their
-//! writers.
+//! writers. They are merged all at once.
 ghost use Rattle.std.specs.Prelude.{◌≡◌, [], ◌∷◌, ◌++◌, map, OnOk, IfOk};
 ghost use Rattle.std.specs.List.{flat_map};
-ghost use Rattle.clog_cells.specs.Merge.{AreInOrder, IsMerge};
+ghost use Rattle.clog_cells.specs.Merge.{IsMerge};
 ghost use Rattle.clog_mutation.specs.Payload.{pair_of, cells_of};
 
 use clog_base::{Cell, CellKey, OutOfMemory, Text};
@@ -27,31 +27,28 @@ fn copy_of(alloc: Global, key: &Text, update: &Update) -> Result<(CellKey, Cell)
     Ok((key, cell))
 }
 
-// Merges a copy of one update.
+// Puts a copy of what one update says behind other cells.
 fn put_copy(
     alloc: Global,
-    cells: &mut CellMap,
+    cells: &mut Vec<(CellKey, Cell)>,
     key: &Text,
     update: &Update,
 ) -> Result<(), OutOfMemory>
-    ensures { OnOk result (IsMerge (cells.old ++ pair_of key.now update.now ∷ []) cells.new) }
+    ensures { OnOk result (cells.new.items ≡ cells.old.items ++ pair_of key.now update.now ∷ []) }
 {
-    let (key, cell) = copy_of(alloc, key, update)?;
-    match cells.put(key, cell) {
-        Ok(()) => Ok(()),
-        Err(_) => Err(OutOfMemory),
-    }
+    cells.push(copy_of(alloc, key, update)?)?;
+    Ok(())
 }
 
-// Merges copies of updates.
+// Puts copies of what updates say.
 fn put_copies(
     alloc: Global,
-    cells: &mut CellMap,
+    cells: &mut Vec<(CellKey, Cell)>,
     key: &Text,
     updates: &[Update],
 ) -> Result<(), OutOfMemory>
-    requires { AreInOrder cells.old }
-    ensures { OnOk result (IsMerge (cells.old ++ map (pair_of key.now) updates.now) cells.new) }
+    ensures { OnOk result (cells.new.items
+        ≡ cells.old.items ++ map (pair_of key.now) updates.now) }
 {
     for update in updates {
         put_copy(alloc, cells, key, update)?;
@@ -63,7 +60,7 @@ fn put_copies(
 pub(crate) fn copies_of(alloc: Global, mutations: &[Mutation]) -> Result<CellMap, OutOfMemory>
     ensures { IfOk result (λ rows. IsMerge (flat_map cells_of mutations.now) rows) }
 {
-    let mut cells = CellMap::new(alloc);
+    let mut cells = Vec::new(alloc);
     for mutation in mutations {
         put_copies(
             alloc,
@@ -72,5 +69,5 @@ pub(crate) fn copies_of(alloc: Global, mutations: &[Mutation]) -> Result<CellMap
             mutation.updates.as_slice(),
         )?;
     }
-    Ok(cells)
+    CellMap::of_pairs(alloc, cells)
 }
