@@ -34,6 +34,7 @@ use clog_base::{Cell, CellKey, OutOfMemory, Table, Text};
 use std::alloc::{AllocFailed, Global};
 use std::collections::BTreeMap;
 use std::marker::Model;
+use std::mem;
 
 /// The greatest number of cells of a map.
 pub(crate) const MAX_CELLS: usize = 4_294_967_295;
@@ -104,6 +105,18 @@ impl CellMap {
         ensures part { OnErr result (MergesPart self.old other self.new) }
     {
         merge(&mut self.cells, other.cells)
+    }
+
+    /// Merges with another map, by moving the cells of the one that has fewer. After a refusal part
+    /// of them is gone.
+    pub fn join(&mut self, other: CellMap) -> Result<(), OutOfMemory>
+        ensures { OnOk result (IsMerge (self.old ++ other) self.new) }
+    {
+        if self.len() < other.len() {
+            let fewer = mem::replace(self, other);
+            return self.merge(fewer);
+        }
+        self.merge(other)
     }
 
     /// Moves the cells of all tables below a number off, into a map of their own. After a refusal

@@ -91,7 +91,7 @@ fn rows_text(
     }
     let mut all = before;
     // A match, since the exit speaks of what was merged.
-    match all.merge(cells) {
+    match all.join(cells) {
         Ok(()) => {}
         Err(e) => return Err(e),
     }

@@ -10,7 +10,6 @@ use clog_cells::CellMap;
 use clog_folder::TableHeld;
 use clog_mutation::Update;
 use std::alloc::Global;
-use std::mem;
 
 /// What updates merge to, and how many they were.
 #[derive(Drop)]
@@ -77,18 +76,6 @@ pub(crate) fn take_update(
     keep(merged, key, update)
 }
 
-/// Merges cells with others, by moving the fewer of them.
-fn join_cells(cells: &mut CellMap, others: CellMap) -> Result<(), OutOfMemory>
-    ensures { OnOk result (IsMerge (cells.old ++ others) cells.new) }
-{
-    if cells.len() < others.len() {
-        let fewer = mem::replace(cells, others);
-        cells.merge(fewer)?;
-        return Ok(());
-    }
-    cells.merge(others)
-}
-
 impl Merged {
     /// Nothing yet.
     pub(crate) fn new(alloc: Global) -> Merged
@@ -113,7 +100,7 @@ impl Merged {
         ) else {
             return Err(OutOfMemory);
         };
-        join_cells(&mut self.cells, other.cells)?;
+        self.cells.join(other.cells)?;
         self.updates = updates;
         self.skipped = skipped;
         Ok(())
