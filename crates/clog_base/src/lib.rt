@@ -1,5 +1,5 @@
 //! Positions, keys, sizes, names of files, cells and checks, the faults that several layers hand
-//! on, and what threads share: how many there are, and memory that one gives back.
+//! on, how many threads share a piece of work, and values that one drops in the background.
 #![tactic(auto)]
 
 mod cell;
@@ -39,4 +39,4 @@ pub use rows::{Bytes, Rows};
 pub use sizes::Sizes;
 pub use text::Text;
 pub use text_row::TextRow;
-pub use threads::{drop_beside, thread_count};
+pub use threads::{drop_in_background, thread_count};

@@ -50,7 +50,7 @@ mod telling;
 use crate::kept::Kept;
 use crate::note_order::{move_behind, part_at};
 use crate::note_writing::write_all;
-use clog_base::{Key, Sizes, drop_beside};
+use clog_base::{Key, Sizes, drop_in_background};
 use clog_disk::Disk;
 use clog_segments::{SectionLog, StoreFault};
 use path_core::EntryNote;
@@ -275,7 +275,7 @@ impl<D: Disk> NoteLog<D> {
             kept: _,
             written: _,
         } = self;
-        drop_beside(rt, logged.len(), logged);
+        drop_in_background(rt, logged.len(), logged);
         log
     }
 }

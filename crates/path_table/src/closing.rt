@@ -31,7 +31,7 @@ use crate::bounds::{TableBounds, last_bounds};
 use crate::table::{Member, PathTable};
 use crate::words::LOG;
 use atomic_table::Closed;
-use clog_base::drop_beside;
+use clog_base::drop_in_background;
 use path_core::{EntryNote, Keeper};
 use path_rule::{Desk, Merge, Slot};
 use std::alloc::{Allocator, Global};
@@ -137,7 +137,7 @@ impl<K: Keeper + Drop> PathTable<K, Global> {
         let Member { seat, number: _ } = member;
         let mut notes = LinkedList::new(alloc);
         let ended = keeper_and_log(table.close_with(seat), &mut notes);
-        drop_beside(rt, notes.len(), notes);
+        drop_in_background(rt, notes.len(), notes);
         ended
     }
 }
