@@ -1,3 +1,4 @@
+pub mod Batched
 pub mod InOrder
 pub mod Made
 pub mod Merging

@@ -43,7 +43,9 @@ use Rattle.clog_base.specs.declared.cell.Cell.{Cell}
 use Rattle.clog_base.specs.declared.cell.CellKey.{CellKey}
 use Rattle.clog_base.specs.declared.cell.Table.{Table}
 use Rattle.clog_base.proofs.Members.{from_map, here, nothing_there, only_one}
+use Rattle.clog_cells.specs.Batches.{Adds, WerePut}
 use Rattle.clog_cells.specs.Merge.{IsMerge, IsMergeOf, part_on}
+use Rattle.clog_cells.specs.declared.batches.CellBatches.{CellBatches}
 use Rattle.clog_cells.proofs.Merging.{of_same}
 use Rattle.clog_cells.proofs.Parts.{members_of_part}
 use Rattle.clog_mutation.specs.declared.mutation.Mutation.{Mutation}
@@ -55,8 +57,8 @@ use Rattle.path_core.specs.Parts.{touches}
 use Rattle.path_core.specs.Whole.{IsWhole}
 use Rattle.clog_memtable.specs.declared.memtable.Interval.{Interval}
 use Rattle.clog_memtable.specs.Filling.{
-  ArePutBy,
   IsFileWithin,
+  IsFilled,
   IsPutBy,
   cells_in,
   is_within,
@@ -81,6 +83,14 @@ payload_is payload =
     ∙ take-append-le (length payload) payload check (omega arith)
     ∙ take_all (length payload) payload (omega arith)
 
+-- the payload in a whole note's bytes
+pub payload_read : (n : EntryNote) (w : IsWhole n)
+    → take (length n.bytes - 4 - 8) (drop 8 n.bytes) ≡ payload_of w.mutation
+unfolding payload_in
+payload_read n w =
+    ap (λ (k : ℕ). take k (drop 8 n.bytes)) (omega arith)
+    ∙ (ap payload_in w.bytes ∙ payload_is (payload_of w.mutation))
+
 pub one_of : (a b : EntryNote) → a ≡ b → (w : IsWhole a) (v : IsWhole b) → w.mutation ≡ v.mutation
 one_of a b same w v =
     one_mutation w.mutation v.mutation w.stored v.stored
@@ -95,46 +105,50 @@ same_cells i a b same w v = let mutation = one_of a b same w v in
 
 -- ---- entry by entry
 
-pub filled_none : (i : Interval) → ArePutBy i [] []
-filled_none i pair = (
-  λ h. absurd (nothing_there pair h),
-  λ p. absurd (nothing_there p.note p.among),
-)
+pub filled_none : (i : Interval) (cells : CellBatches) → WerePut [] cells → IsFilled i [] cells
+filled_none i cells none = record {
+  pairs = [];
+  put = none;
+  exact = λ pair. (
+    λ h. absurd (nothing_there pair h),
+    λ p. absurd (nothing_there p.note p.among),
+  );
+}
 
-pub filled_more : (i : Interval) (notes : List EntryNote) (n : EntryNote) (cells new : Pairs)
-    → ArePutBy i notes cells → (w : IsWhole n) → new ≡ cells ++ cells_in i n w.mutation
-    → ArePutBy i (notes ++ n ∷ []) new
-filled_more i notes n cells new F w step = subst (ArePutBy i (notes ++ n ∷ [])) (sym step)
-    (λ pair. (
-      λ h. ⊎_elim
-          (λ old. let p = (F pair).0 old in record {
-            note = p.note;
-            among = Contains-append_left notes (n ∷ []) p.note p.among;
-            whole = p.whole;
-            listed = p.listed;
-          })
-          (λ last. record {
-            note = n;
-            among = Contains-append_right notes (n ∷ []) n (here n []);
-            whole = w;
-            listed = last;
-          })
-          (Contains-append_cases cells more pair h),
-      λ p. ⊎_elim
-          (λ old. Contains-append_left cells more pair ((F pair).1 (record {
-            note = p.note;
-            among = old;
-            whole = p.whole;
-            listed = p.listed;
-          })))
-          (λ last. Contains-append_right cells more pair
-          (subst (λ (l : Pairs). Contains l pair)
-          (sym (same_cells i n p.note (only_one n p.note last) w p.whole)) p.listed))
-          (Contains-append_cases notes (n ∷ []) p.note p.among),
-    ))
-  where
-    more : Pairs
-    more = cells_in i n w.mutation
+pub filled_more : (i : Interval) (notes : List EntryNote) (n : EntryNote)
+    (cells new : CellBatches) → IsFilled i notes cells → (w : IsWhole n)
+    → Adds (cells_in i n w.mutation) cells new → IsFilled i (notes ++ n ∷ []) new
+filled_more i notes n cells new F w step = let more = cells_in i n w.mutation in record {
+  pairs = F.pairs ++ more;
+  put = step F.pairs F.put;
+  exact = λ pair. (
+    λ h. ⊎_elim
+        (λ old. let p = (F.exact pair).0 old in record {
+          note = p.note;
+          among = Contains-append_left notes (n ∷ []) p.note p.among;
+          whole = p.whole;
+          listed = p.listed;
+        })
+        (λ last. record {
+          note = n;
+          among = Contains-append_right notes (n ∷ []) n (here n []);
+          whole = w;
+          listed = last;
+        })
+        (Contains-append_cases F.pairs more pair h),
+    λ p. ⊎_elim
+        (λ old. Contains-append_left F.pairs more pair ((F.exact pair).1 (record {
+          note = p.note;
+          among = old;
+          whole = p.whole;
+          listed = p.listed;
+        })))
+        (λ last. Contains-append_right F.pairs more pair
+        (subst (λ (l : Pairs). Contains l pair)
+        (sym (same_cells i n p.note (only_one n p.note last) w p.whole)) p.listed))
+        (Contains-append_cases notes (n ∷ []) p.note p.among),
+  );
+}
 
 -- ---- what the table file has to hold
 
@@ -208,10 +222,10 @@ module _ (i : Interval) (notes : List EntryNote) (h : Holding) (f : PutFile)
       }
 
   -- so is the merge of all that was put
-  pub filled_is : (cells rows : Pairs) → ArePutBy i notes cells → IsMerge cells rows
-      → IsMergeOf (IsLoggedCell h f) rows
-  filled_is cells rows F merged = of_same (Contains cells) (IsLoggedCell h f) rows
+  pub filled_is : (cells : CellBatches) (rows : Pairs) → (F : IsFilled i notes cells)
+      → IsMerge F.pairs rows → IsMergeOf (IsLoggedCell h f) rows
+  filled_is cells rows F = of_same (Contains F.pairs) (IsLoggedCell h f) rows
       (λ pair. (
-        λ there. logged_cell pair ((F pair).0 there),
-        λ c. (F pair).1 (put_by pair c),
-      )) merged
+        λ there. logged_cell pair ((F.exact pair).0 there),
+        λ c. (F.exact pair).1 (put_by pair c),
+      ))

@@ -13,7 +13,9 @@ use Rattle.std.specs.Prelude.{
 }
 use Rattle.clog_base.specs.declared.cell.Cell.{Cell}
 use Rattle.clog_base.specs.declared.cell.CellKey.{CellKey}
+use Rattle.clog_cells.specs.Batches.{WerePut}
 use Rattle.clog_cells.specs.Merge.{part_on}
+use Rattle.clog_cells.specs.declared.batches.CellBatches.{CellBatches}
 use Rattle.clog_mutation.specs.declared.mutation.Mutation.{Mutation}
 use Rattle.clog_mutation.specs.Payload.{cells_of}
 use Rattle.path_core.specs.declared.note.EntryNote.{EntryNote}
@@ -51,3 +53,9 @@ pub record IsPutBy (i : Interval) (notes : List EntryNote) (pair : CellKey × Ce
 -- come.
 abbrev pub ArePutBy : Interval → List EntryNote → List (CellKey × Cell) → Type 0
 ArePutBy i notes cells = (pair : CellKey × Cell) → Contains cells pair ↔ IsPutBy i notes pair
+
+-- Just these cells were put.
+pub record IsFilled (i : Interval) (notes : List EntryNote) (cells : CellBatches) : Type 0 where
+  pub pairs : List (CellKey × Cell)
+  pub put : WerePut pairs cells
+  pub exact : ArePutBy i notes pairs

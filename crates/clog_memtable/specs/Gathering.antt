@@ -4,6 +4,8 @@ use Rattle.std.specs.List.{Contains}
 use Rattle.clog_base.specs.declared.cell.Cell.{Cell}
 use Rattle.clog_base.specs.declared.cell.CellKey.{CellKey}
 use Rattle.clog_base.specs.declared.cell.Table.{Table}
+use Rattle.clog_cells.specs.Batches.{WerePut}
+use Rattle.clog_cells.specs.declared.batches.CellBatches.{CellBatches}
 use Rattle.clog_mutation.specs.Payload.{cells_of}
 use Rattle.path_core.specs.declared.note.EntryNote.{EntryNote}
 use Rattle.path_core.specs.Whole.{IsWhole}
@@ -20,3 +22,10 @@ pub record IsCellOf (notes : List EntryNote) (t : ℕ) (pair : CellKey × Cell) 
 abbrev pub AreCellsOf : Table → List EntryNote → List (CellKey × Cell) → Type 0
 AreCellsOf table notes cells =
     (pair : CellKey × Cell) → Contains cells pair ↔ IsCellOf notes table.0 pair
+
+-- Just these cells were put.
+pub record IsGathered (table : Table) (notes : List EntryNote) (cells : CellBatches)
+    : Type 0 where
+  pub pairs : List (CellKey × Cell)
+  pub put : WerePut pairs cells
+  pub exact : AreCellsOf table notes pairs

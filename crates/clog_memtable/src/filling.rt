@@ -1,39 +1,39 @@
-//! The cells that an entry has of one table are put behind those of others. They are merged all at
-//! once, which compares fewer keys than to put each into a map.
-ghost use Rattle.std.specs.Prelude.{◌≡◌, ◌∷◌, ◌++◌, [], OnOk, map};
+//! The cells that an entry has of one table are put behind those of others, to be merged in batches.
+ghost use Rattle.std.specs.Prelude.{◌∷◌, [], OnOk, map};
+ghost use Rattle.clog_cells.specs.Batches.{Adds};
 ghost use Rattle.clog_cells.specs.Merge.{part_on};
 ghost use Rattle.clog_mutation.specs.Payload.{cells_of, pair_of};
 ghost use Rattle.path_core.specs.Whole.{IsWhole};
 
-use clog_base::{Cell, CellKey, OutOfMemory, Table, Text};
+use clog_base::{CellKey, OutOfMemory, Table, Text};
+use clog_cells::CellBatches;
 use clog_entry::ENTRY_FRONT_SIZE;
 use clog_mutation::{Mutation, Update, decode};
 use path_core::EntryNote;
 use std::alloc::Global;
 
 // Puts what an update says under a key behind other cells.
-fn put_under(cells: &mut Vec<(CellKey, Cell)>, key: Text, update: Update) -> Result<(), OutOfMemory>
-    ensures { OnOk result (cells.new.items ≡ cells.old.items ++ pair_of key update ∷ []) }
+fn put_under(cells: &mut CellBatches, key: Text, update: Update) -> Result<(), OutOfMemory>
+    ensures { OnOk result (Adds (pair_of key update ∷ []) cells.old cells.new) }
 {
     let Update {
         table,
         column,
         cell,
     } = update;
-    cells.push((CellKey { table, key, column }, cell))?;
-    Ok(())
+    cells.put(CellKey { table, key, column }, cell)
 }
 
 // Puts what an update says under a copy of a key, if it is of the table.
 fn put_copied(
     alloc: Global,
-    cells: &mut Vec<(CellKey, Cell)>,
+    cells: &mut CellBatches,
     table: Table,
     key: &Text,
     update: Update,
 ) -> Result<(), OutOfMemory>
-    ensures { OnOk result (cells.new.items
-        ≡ cells.old.items ++ part_on table (pair_of key.now update ∷ [])) }
+    ensures { OnOk result
+        (Adds (part_on table (pair_of key.now update ∷ [])) cells.old cells.new) }
 {
     if update.table.0 != table.0 {
         return Ok(());
@@ -43,13 +43,12 @@ fn put_copied(
 
 // Puts what the last update says under the key itself, if it is of the table.
 fn put_last(
-    cells: &mut Vec<(CellKey, Cell)>,
+    cells: &mut CellBatches,
     table: Table,
     key: Text,
     update: Update,
 ) -> Result<(), OutOfMemory>
-    ensures { OnOk result (cells.new.items
-        ≡ cells.old.items ++ part_on table (pair_of key update ∷ [])) }
+    ensures { OnOk result (Adds (part_on table (pair_of key update ∷ [])) cells.old cells.new) }
 {
     if update.table.0 != table.0 {
         return Ok(());
@@ -60,13 +59,13 @@ fn put_last(
 // Puts those of the updates under a key that are of the table.
 fn put_updates(
     alloc: Global,
-    cells: &mut Vec<(CellKey, Cell)>,
+    cells: &mut CellBatches,
     table: Table,
     key: &Text,
     updates: Vec<Update>,
 ) -> Result<(), OutOfMemory>
-    ensures { OnOk result (cells.new.items
-        ≡ cells.old.items ++ part_on table (map (pair_of key.now) updates.items)) }
+    ensures { OnOk result
+        (Adds (part_on table (map (pair_of key.now) updates.items)) cells.old cells.new) }
 {
     for update in updates {
         put_copied(alloc, cells, table, key, update)?;
@@ -78,12 +77,11 @@ fn put_updates(
 // nothing is copied of a mutation of one update.
 fn put_mutation(
     alloc: Global,
-    cells: &mut Vec<(CellKey, Cell)>,
+    cells: &mut CellBatches,
     table: Table,
     mutation: Mutation,
 ) -> Result<(), OutOfMemory>
-    ensures { OnOk result (cells.new.items
-        ≡ cells.old.items ++ part_on table (cells_of mutation)) }
+    ensures { OnOk result (Adds (part_on table (cells_of mutation)) cells.old cells.new) }
 {
     let Mutation { key, updates } = mutation;
     let mut updates = updates.into_vec();
@@ -97,13 +95,13 @@ fn put_mutation(
 /// Puts the cells of an entry that are of the table behind others.
 pub(crate) fn put_note(
     alloc: Global,
-    cells: &mut Vec<(CellKey, Cell)>,
+    cells: &mut CellBatches,
     table: Table,
     note: &EntryNote,
 ) -> Result<(), OutOfMemory>
     requires { IsWhole note.now }
-    ensures { (whole : IsWhole note.now) → OnOk result (cells.new.items
-        ≡ cells.old.items ++ part_on table (cells_of whole.mutation)) }
+    ensures { (whole : IsWhole note.now) → OnOk result
+        (Adds (part_on table (cells_of whole.mutation)) cells.old cells.new) }
 {
     let bytes = note.bytes.as_slice();
     let payload = &bytes[ENTRY_FRONT_SIZE..bytes.len() - 4];

@@ -1,6 +1,7 @@
 //! The cells of a table within an interval of the log. Each entry that touches the table and ends
 //! within the interval is read once; the others are passed over.
-ghost use Rattle.std.specs.Prelude.{◌≡◌, ◌<◌, ◌++◌, IfOk, OnOk};
+ghost use Rattle.std.specs.Prelude.{◌≡◌, ◌<◌, IfOk, OnOk};
+ghost use Rattle.clog_cells.specs.Batches.{Adds};
 ghost use Rattle.clog_cells.specs.Merge.{IsMergeOf};
 ghost use Rattle.clog_memtable.specs.Filling.{
   AreWhole,
@@ -13,8 +14,8 @@ ghost use Rattle.path_core.specs.Keeper.{Holding, IsLoggedCell, PutFile};
 ghost use Rattle.path_core.specs.Whole.{IsWhole};
 
 use crate::filling::put_note;
-use clog_base::{Cell, CellKey, Key, OutOfMemory, Table};
-use clog_cells::CellMap;
+use clog_base::{Key, OutOfMemory, Table};
+use clog_cells::{CellBatches, CellMap};
 use path_core::EntryNote;
 use std::alloc::Global;
 
@@ -43,14 +44,14 @@ fn is_within(note: &EntryNote, interval: Interval) -> bool
 // Puts the cells of an entry, if it is the memtable's.
 fn put_within(
     alloc: Global,
-    cells: &mut Vec<(CellKey, Cell)>,
+    cells: &mut CellBatches,
     interval: Interval,
     note: &EntryNote,
 ) -> Result<(), OutOfMemory>
     requires table { interval.table.0 < most_tables }
     requires whole { IsWhole note.now }
-    ensures { (whole : IsWhole note.now) → OnOk result (cells.new.items
-        ≡ cells.old.items ++ cells_in interval note.now whole.mutation) }
+    ensures { (whole : IsWhole note.now) → OnOk result
+        (Adds (cells_in interval note.now whole.mutation) cells.old cells.new) }
 {
     if is_within(note, interval) {
         return put_note(alloc, cells, interval.table, note);
@@ -70,9 +71,9 @@ pub fn cells_within(
     ensures { (h : Holding) (f : PutFile) → h.logged ≡ logged.now → IsFileWithin interval f
         → IfOk result (IsMergeOf (IsLoggedCell h f)) }
 {
-    let mut cells = Vec::new(alloc);
+    let mut cells = CellBatches::new(alloc);
     for note in logged {
         put_within(alloc, &mut cells, interval, note)?;
     }
-    CellMap::of_pairs(alloc, cells)
+    cells.into_map()
 }

@@ -28,14 +28,16 @@ use Rattle.std.proofs.Common.{
   IfSome,
 }
 use Rattle.std.proofs.lemmas.List.{append-nil}
-use Rattle.std.specs.List.{Contains, filter, list_any}
+use Rattle.std.specs.List.{filter, list_any}
 use Rattle.clog_base.specs.declared.cell.Cell.{Cell}
 use Rattle.clog_base.specs.declared.cell.CellKey.{CellKey}
 use Rattle.clog_base.specs.declared.cell.Table.{Table}
 use Rattle.clog_cells.proofs.Merging.{of_same}
+use Rattle.clog_cells.specs.Batches.{WerePut}
 use Rattle.clog_cells.specs.Merge.{IsMerge}
-use Rattle.clog_memtable.specs.Gathering.{AreCellsOf, IsCellOf}
-use Rattle.clog_memtable.proofs.Gathered.{gathered_none}
+use Rattle.clog_cells.specs.declared.batches.CellBatches.{CellBatches}
+use Rattle.clog_memtable.specs.Gathering.{IsCellOf, IsGathered}
+use Rattle.clog_memtable.proofs.Gathered.{gathered_is, gathered_none}
 use Rattle.path_core.specs.declared.note.EntryNote.{EntryNote}
 use Rattle.path_rule.specs.declared.view.FlushRead.{FlushRead}
 use Rattle.path_rule.specs.declared.view.Hands.{Hands}
@@ -103,41 +105,41 @@ cell_of notes t pair C = record {
 }
 
 -- the merge of the cells of all that was seen is what a file of it has to hold
-gathered_seen : (t : Table) (q : FlushRead) (cells merged : List (CellKey × Cell))
-    → AreCellsOf t q.seen cells → IsMerge cells merged → AreSeen q t.0 merged
-gathered_seen t q cells merged G M = of_same (Contains cells) (IsCellIn q.seen t.0) merged
-    (λ pair. (
-      λ there. cell_in q.seen t.0 pair ((G pair).0 there),
-      λ c. (G pair).1 (cell_of q.seen t.0 pair c),
-    )) M
+gathered_seen : (t : Table) (q : FlushRead) (cells : CellBatches) (merged : List (CellKey × Cell))
+    → IsGathered t q.seen cells
+    → ((put : List (CellKey × Cell)) → WerePut put cells → IsMerge put merged)
+    → AreSeen q t.0 merged
+gathered_seen t q cells merged G M =
+    of_same (IsCellOf q.seen t.0) (IsCellIn q.seen t.0) merged
+    (λ pair. (cell_in q.seen t.0 pair, cell_of q.seen t.0 pair))
+    (gathered_is t q.seen cells merged G (M G.pairs G.put))
 
 -- a further box was read, whose rest holds these notes
 pub box_gathered : {E : Type 0} (t : Table) (seen left : List EntryNote)
-    (p : EntryNote → Bool) (new : List (CellKey × Cell)) (some more : Bool) (after : Hands)
+    (p : EntryNote → Bool) (new : CellBatches) (some more : Bool) (after : Hands)
     (done : Result (Unit {0}) E)
     → ((q : FlushRead) → after.reading ≡ Some q → seen ++ filter p left ≡ q.seen)
-    → OnOk done (AreCellsOf t (seen ++ filter p left) new) → AreSome some seen
+    → OnOk done (IsGathered t (seen ++ filter p left) new) → AreSome some seen
     → more ≡ (list_any p left || some)
     → IfSome (told_some done more) (λ b. HoldsGathered t new b after)
 box_gathered t seen left p new some more after (Ok u) is G S same = λ q has. (
-  subst (λ l. AreCellsOf t l new) (is q has) G,
+  subst (λ l. IsGathered t l new) (is q has) G,
   subst (λ l. AreSome more l) (is q has) (subst (λ b. AreSome b (seen ++ filter p left)) (sym same)
       (joined_some some (list_any p left) seen (filter p left) S (kept_some p left))),
 )
 box_gathered t seen left p new some more after (Err e) is G S same = tt
 
 -- no box was read yet
-pub none_gathered : (t : Table) (cells : List (CellKey × Cell)) (h : Hands)
-    → ((q : FlushRead) → h.reading ≡ Some q → q.seen ≡ []) → cells ≡ []
+pub none_gathered : (t : Table) (cells : CellBatches) (h : Hands)
+    → ((q : FlushRead) → h.reading ≡ Some q → q.seen ≡ []) → WerePut [] cells
     → HoldsGathered t cells false h
 none_gathered t cells h void none = λ q has. (
-  subst (λ l. AreCellsOf t l cells) (sym (void q has))
-      (subst (λ (k : List (CellKey × Cell)). AreCellsOf t [] k) (sym none) (gathered_none t)),
+  subst (λ l. IsGathered t l cells) (sym (void q has)) (gathered_none t cells none),
   void q has,
 )
 
 -- all boxes were
-pub all_gathered : (seats : ℕ) (t : Table) (m : ℕ) (cells : List (CellKey × Cell))
+pub all_gathered : (seats : ℕ) (t : Table) (m : ℕ) (cells : CellBatches)
     (some : Option Bool) (h : Hands) (g : Gathered) → HasGatheredAll seats t m cells some h
     → IsMadeOf some cells g → HasGathered seats t m g h
 all_gathered seats t m cells (Some true) h (Cells merged) A M =

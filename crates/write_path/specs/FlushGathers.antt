@@ -18,8 +18,10 @@ use Rattle.std.specs.Prelude.{
 use Rattle.clog_base.specs.declared.cell.Cell.{Cell}
 use Rattle.clog_base.specs.declared.cell.CellKey.{CellKey}
 use Rattle.clog_base.specs.declared.cell.Table.{Table}
+use Rattle.clog_cells.specs.Batches.{WerePut}
 use Rattle.clog_cells.specs.Merge.{IsMerge}
-use Rattle.clog_memtable.specs.Gathering.{AreCellsOf}
+use Rattle.clog_cells.specs.declared.batches.CellBatches.{CellBatches}
+use Rattle.clog_memtable.specs.Gathering.{IsGathered}
 use Rattle.path_core.specs.declared.note.EntryNote.{EntryNote}
 use Rattle.path_rule.specs.declared.view.FlushRead.{FlushRead}
 use Rattle.path_rule.specs.declared.view.Hands.{Hands}
@@ -38,9 +40,9 @@ AreSome true notes = notes ≢ []
 AreSome false notes = notes ≡ []
 
 -- These are the cells of a table in what it has read, which is something, or nothing.
-abbrev pub HoldsGathered : Table → List (CellKey × Cell) → Bool → Hands → Type 0
+abbrev pub HoldsGathered : Table → CellBatches → Bool → Hands → Type 0
 HoldsGathered table cells some h = (q : FlushRead) → h.reading ≡ Some q
-    → AreCellsOf table q.seen cells × AreSome some q.seen
+    → IsGathered table q.seen cells × AreSome some q.seen
 
 -- It reads memtable m of a table, and has no box in hand.
 abbrev pub ReadsIt : ℕ → ℕ → Hands → FlushRead → Type 0
@@ -48,10 +50,10 @@ ReadsIt t m h q = (h.reading ≡ Some q) × (q.table ≡ t) × (q.memtable ≡ m
 
 -- The boxes of all seats of a memtable were seen: these are the cells in them, and something lay
 -- there or not. Or memory was refused, and no box is in hand.
-abbrev pub HasGatheredAll : ℕ → Table → ℕ → List (CellKey × Cell) → Option Bool → Hands → Type 0
+abbrev pub HasGatheredAll : ℕ → Table → ℕ → CellBatches → Option Bool → Hands → Type 0
 HasGatheredAll seats table m cells None h = (q : FlushRead) × ReadsIt table.0 m h q
 HasGatheredAll seats table m cells (Some some) h = (q : FlushRead) × SeesAll seats h table.0 m q
-    × AreCellsOf table q.seen cells × AreSome some q.seen
+    × IsGathered table q.seen cells × AreSome some q.seen
 
 -- the same by what is gathered
 abbrev pub HasGathered : ℕ → Table → ℕ → Gathered → Hands → Type 0
@@ -65,10 +67,11 @@ abbrev pub told_some : {T E : Type 0} → Result T E → Bool → Option Bool
 told_some (Ok done) some = Some some
 told_some (Err fault) some = None
 
--- What is gathered, by whether something was found: the merge of the cells, unless memory is
--- refused for it.
-abbrev pub IsMadeOf : Option Bool → List (CellKey × Cell) → Gathered → Type 0
-IsMadeOf (Some true) cells (Cells merged) = IsMerge cells merged
+-- What is gathered, by whether something was found: the merge of the cells that were put, unless
+-- memory is refused for it.
+abbrev pub IsMadeOf : Option Bool → CellBatches → Gathered → Type 0
+IsMadeOf (Some true) cells (Cells merged) =
+    (put : List (CellKey × Cell)) → WerePut put cells → IsMerge put merged
 IsMadeOf (Some true) cells Nothing = ⊥
 IsMadeOf (Some true) cells OutOfMemory = Unit {0}
 IsMadeOf (Some false) cells gathered = gathered ≡ Nothing

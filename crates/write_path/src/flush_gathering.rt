@@ -1,7 +1,8 @@
 //! What was written to a memtable is gathered behind its barrier, from the boxes of all seats, and
-//! merged all at once into the cells of a table file. For that its table's Flush turn is enough.
+//! merged in batches into the cells of a table file. For that its table's Flush turn is enough.
 ghost use Rattle.std.specs.List.{list_any};
 ghost use Rattle.std.specs.Prelude.{◌≡◌, ℕ, suc, ◌<◌, ◌||◌, [], Some, true, nat_lt, IfSome};
+ghost use Rattle.clog_cells.specs.Batches.{WerePut};
 ghost use Rattle.path_core.specs.declared.note.EntryNote.{EntryNote};
 ghost use Rattle.path_rule.specs.declared.view.FlushRead.{FlushRead};
 ghost use Rattle.path_table.specs.Members.{view_of, hands_of, boxes_of, IsOf};
@@ -18,8 +19,8 @@ ghost use Rattle.write_path.specs.Tries.{Stays};
 
 use crate::flush_reading::{box_number, trim};
 use crate::seats::WritePath;
-use clog_base::{Cell, CellKey, Key, OutOfMemory, Table};
-use clog_cells::CellMap;
+use clog_base::{Key, OutOfMemory, Table};
+use clog_cells::{CellBatches, CellMap};
 use clog_memtable::gather;
 use path_core::{EntryNote, Keeper};
 use path_table::Member;
@@ -62,21 +63,21 @@ fn told_some(done: Result<(), OutOfMemory>, some: bool) -> Option<bool>
 }
 
 // The newest of these cells.
-fn merged(alloc: Global, cells: Vec<(CellKey, Cell)>) -> Gathered
-    ensures { IsMadeOf (Some true) cells.items result }
+fn merged(cells: CellBatches) -> Gathered
+    ensures { IsMadeOf (Some true) cells result }
 {
-    match CellMap::of_pairs(alloc, cells) {
+    match cells.into_map() {
         Ok(cells) => Gathered::Cells(cells),
         Err(_) => Gathered::OutOfMemory,
     }
 }
 
 // What was gathered, by whether something was found.
-fn gathered_of(alloc: Global, some: Option<bool>, cells: Vec<(CellKey, Cell)>) -> Gathered
-    ensures { IsMadeOf some cells.items result }
+fn gathered_of(some: Option<bool>, cells: CellBatches) -> Gathered
+    ensures { IsMadeOf some cells result }
 {
     match some {
-        Some(true) => merged(alloc, cells),
+        Some(true) => merged(cells),
         Some(false) => Gathered::Nothing,
         None => Gathered::OutOfMemory,
     }
@@ -94,19 +95,19 @@ impl<K: Keeper, A: Allocator> WritePath<K, A> {
         memtable: u64,
         above: Key,
         seat: u64,
-        cells: &mut Vec<(CellKey, Cell)>,
+        cells: &mut CellBatches,
         some: bool,
     ) -> (Member<K>, Option<bool>)
         requires table { IsOf self.now.table.table.shared.table_id self.now.table.size member }
         requires there { (table.0 < self.now.table.size.tables) × (memtable < 256)
             × (seat < self.now.table.size.seats) }
         requires reads { HasRead table.0 memtable above.0 seat (hands_of member) }
-        requires gathered { HoldsGathered table cells.old.items some (hands_of member) }
+        requires gathered { HoldsGathered table cells.old some (hands_of member) }
         ensures same { Stays self.now.table.table.shared.table_id self.now.table.size member
             result.0 × (boxes_of result.0 ≡ boxes_of member) }
         ensures steps { ReadSteps member.number table.0 (view_of member) (view_of result.0) }
         ensures reads { HasRead table.0 memtable above.0 (suc seat) (hands_of result.0) }
-        ensures gathered { IfSome result.1 (λ some. HoldsGathered table cells.new.items
+        ensures gathered { IfSome result.1 (λ some. HoldsGathered table cells.new
             some (hands_of result.0)) }
     {
         let mut member = member;
@@ -129,17 +130,17 @@ impl<K: Keeper, A: Allocator> WritePath<K, A> {
         table: Table,
         memtable: u64,
         above: Key,
-        cells: &mut Vec<(CellKey, Cell)>,
+        cells: &mut CellBatches,
     ) -> (Member<K>, Option<bool>)
         requires table { IsOf self.now.table.table.shared.table_id self.now.table.size member }
         requires there { (table.0 < self.now.table.size.tables) × (memtable < 256) }
         requires reads { HasRead table.0 memtable above.0 0 (hands_of member) }
         requires void { ((q : FlushRead) → (hands_of member).reading ≡ Some q → q.seen ≡ [])
-            × (cells.old.items ≡ []) }
+            × WerePut [] cells.old }
         ensures same { Stays self.now.table.table.shared.table_id self.now.table.size member
             result.0 × (boxes_of result.0 ≡ boxes_of member) }
         ensures steps { ReadSteps member.number table.0 (view_of member) (view_of result.0) }
-        ensures all { HasGatheredAll self.now.table.size.seats table memtable cells.new.items
+        ensures all { HasGatheredAll self.now.table.size.seats table memtable cells.new
             result.1 (hands_of result.0) }
     {
         let mut member = member;
@@ -179,8 +180,8 @@ impl<K: Keeper, A: Allocator> WritePath<K, A> {
         ensures gathered { HasGathered self.now.table.size.seats table memtable result.1
             (hands_of result.0) }
     {
-        let mut cells = Vec::new(alloc);
+        let mut cells = CellBatches::new(alloc);
         let (member, some) = self.gather_boxes(alloc, member, table, memtable, above, &mut cells);
-        (member, gathered_of(alloc, some, cells))
+        (member, gathered_of(some, cells))
     }
 }

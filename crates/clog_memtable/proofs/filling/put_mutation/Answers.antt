@@ -1,5 +1,6 @@
 use Rattle.std.proofs.Common.{◌≡◌, ◌∷◌, ◌++◌, [], List, map, sym, ◌∙◌, subst}
 use Rattle.clog_base.proofs.Follows.{on_ok}
+use Rattle.clog_cells.specs.Batches.{Adds}
 use Rattle.clog_cells.specs.Merge.{part_on}
 use Rattle.clog_mutation.specs.declared.mutation.Update.{Update}
 use Rattle.clog_mutation.specs.Payload.{pair_of}
@@ -10,8 +11,8 @@ pub returns : goal.returns
 returns c = let m = c.args.mutation in let front = c.pop.new.self.items in
     let all : m.updates ≡ front ++ c.in-Some.last ∷ [] =
     sym c.into_vec-updates.ensures ∙ c.in-Some.ensures.items in
-    let new = c.put_last.new.cells.items in
+    let old = c.args.cells.now in let new = c.put_last.new.cells in
     on_ok c.put_last.result _ _ c.put_last.ensures (λ step. subst (λ (us : List Update).
-    new ≡ c.args.cells.now.items ++ part_on c.args.table (map (pair_of m.key) us)) (sym all)
-    (one_update c.args.table m.key c.args.cells.now.items c.put_updates.new.cells.items new front
-    c.in-Some.last c.in_ok-put_updates.ensures step))
+    Adds (part_on c.args.table (map (pair_of m.key) us)) old new) (sym all)
+    (one_update c.args.table m.key old c.put_updates.new.cells new front c.in-Some.last
+    c.in_ok-put_updates.ensures step))

@@ -1,7 +1,7 @@
 use Rattle.std.proofs.Common.{◌≡◌, ◌++◌, nat_lt, List}
 use Rattle.std.specs.List.{filter}
 use Rattle.path_core.specs.declared.note.EntryNote.{EntryNote}
-use Rattle.clog_memtable.specs.Gathering.{AreCellsOf}
+use Rattle.clog_memtable.specs.Gathering.{IsGathered}
 use Rattle.clog_memtable.proofs.gathering.gather.Given as goal
 
 -- what was gathered, and what is left, are the whole
@@ -9,7 +9,7 @@ abbrev pub invariant-loop-note : goal.invariant-loop-note
 invariant-loop-note l = record {
   done : List EntryNote;
   parts : done ++ l.note-iterator ≡ l.notes;
-  gathered : (before : List EntryNote) → AreCellsOf l.table before l.initial.cells.items
-      → AreCellsOf l.table (before ++ filter (λ (n : EntryNote). nat_lt l.above.0 n.end.0) done)
-      l.cells.items;
+  gathered : (before : List EntryNote) → IsGathered l.table before l.initial.cells
+      → IsGathered l.table (before ++ filter (λ (n : EntryNote). nat_lt l.above.0 n.end.0) done)
+      l.cells;
 }

@@ -36,5 +36,5 @@ loop-seat-preserved g c = let I = c.loop-seat.invariant in let G = c.gather_box-
       reads = subst (λ (k : ℕ). HasRead c.args.table.0 c.args.memtable c.args.above.0 k after) up
           B.reads;
       gathered = subst (λ (o : Option Bool). IfSome o (λ k.
-          HoldsGathered c.args.table G.new.cells.items k after)) c.in-Some.is B.gathered;
+          HoldsGathered c.args.table G.new.cells k after)) c.in-Some.is B.gathered;
     }

@@ -10,5 +10,5 @@ invariant-loop-seat g l = let first = l.fn.member in record {
   boxes : l.member.seat.me.1 ≡ first.seat.me.1;
   steps : ReadSteps first.number l.fn.table.0 first.seat.me.0 l.member.seat.me.0;
   reads : HasRead l.fn.table.0 l.fn.memtable l.fn.above.0 l.seat l.member.seat.me.0.hands;
-  gathered : HoldsGathered l.fn.table l.cells.items l.some l.member.seat.me.0.hands;
+  gathered : HoldsGathered l.fn.table l.cells l.some l.member.seat.me.0.hands;
 }
