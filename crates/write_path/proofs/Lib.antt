@@ -27,6 +27,7 @@ pub mod Outcomes
 pub mod SyncLists
 pub mod ClaimBehind
 pub mod Trying
+pub mod TriedOnce
 pub mod Sealing
 pub mod OwnClaims
 pub mod SealedApart

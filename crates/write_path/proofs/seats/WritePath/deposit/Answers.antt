@@ -9,7 +9,6 @@ use Rattle.std.proofs.Common.{
   List,
   [],
   ◌∷◌,
-  ◌++◌,
   length,
   get_or,
   Some,
@@ -40,7 +39,7 @@ use Rattle.write_path.specs.Applies.{tables_left}
 use Rattle.write_path.specs.Ends.{writes_of, IsLast}
 use Rattle.write_path.specs.Writes.{IsNoteOf}
 use Rattle.write_path.proofs.UpdatesPut.{none_put}
-use Rattle.write_path.proofs.BoxKept.{carries_notes}
+use Rattle.write_path.proofs.BoxKept.{carries_notes, has_deposit}
 use Rattle.write_path.proofs.NoteLaws.{is_depositable}
 use Rattle.write_path.proofs.seats.WritePath.deposit.Goals as goal
 
@@ -54,25 +53,17 @@ put_notes-member-requires-clause-kept g c =
 
 pub put_notes-member-requires-clause-few : goal.put_notes-member-requires-clause-few
 put_notes-member-requires-clause-few g c =
-    let P = c.requires.prepared in
-    let C = c.claimed.ensures P.0 P.1 P.2 P.3 in
+    let P = c.requires.prepared in let C = c.claimed.ensures P.0 P.1 P.2 P.3 in
     let one = ap (λ (l : List EntryNote). length l) C.prepared.one in
     let few = c.args.seat.few in omega arith
 
 pub deposit-found-requires-clause-note : goal.deposit-found-requires-clause-note
 deposit-found-requires-clause-note g c =
-    let P = c.requires.prepared in
-    let C = c.claimed.ensures P.0 P.1 P.2 P.3 in
-    let s = c.args.seat in
-    let at : 1 + 2 * c.from.result + s.group % 2 ≡ box_of s.member.number s.group =
-    ap (λ (n : ℕ). 1 + 2 * n + s.group % 2) (c.from.ensures ∙ c.number-number.ensures) in
-    let V = c.put_notes-member.ensures.same.1 in
-    let same = c.put_notes-member.ensures.same.0.1 in
-    let kept = c.put_notes-member.ensures.kept in
-    let has = kept ∙ (λ i. (
-      (at ∙ ap (λ (n : ℕ). box_of n s.group) (sym same)) i,
-      Notes ((sym (ap (λ (v : View). v.hands.notes) V)) i ++ C.prepared.one i),
-    ) ∷ (sym (ap (λ (l : List (ℕ × Slot g.row.K.Denot)). rest l) kept)) i) in
+    let P = c.requires.prepared in let C = c.claimed.ensures P.0 P.1 P.2 P.3 in
+    let s = c.args.seat in let put = c.put_notes-member.ensures in let V = put.same.1 in
+    let same = put.same.0.1 in
+    let has = has_deposit s.group s.member c.put_notes-member.result
+    (c.from.ensures ∙ c.number-number.ensures) same V put.kept C.prepared.one in
     let ready = is_depositable P.0 P.1 c.args.seat.start.0 c.number-number.result P.2
     c.claimed.new.self C in (
       C.prepared.note,
@@ -88,18 +79,11 @@ deposit-found-requires-clause-note g c =
 
 pub invariant_of-seat : goal.invariant_of-seat
 invariant_of-seat g c =
-    let P = c.requires.prepared in
-    let C = c.claimed.ensures P.0 P.1 P.2 P.3 in
-    let s = c.args.seat in
-    let at : 1 + 2 * c.from.result + s.group % 2 ≡ box_of s.member.number s.group =
-    ap (λ (n : ℕ). 1 + 2 * n + s.group % 2) (c.from.ensures ∙ c.number-number.ensures) in
-    let V = c.put_notes-member.ensures.same.1 in
-    let same = c.put_notes-member.ensures.same.0.1 in
-    let kept = c.put_notes-member.ensures.kept in
-    let has = kept ∙ (λ i. (
-      (at ∙ ap (λ (n : ℕ). box_of n s.group) (sym same)) i,
-      Notes ((sym (ap (λ (v : View). v.hands.notes) V)) i ++ C.prepared.one i),
-    ) ∷ (sym (ap (λ (l : List (ℕ × Slot g.row.K.Denot)). rest l) kept)) i) in
+    let P = c.requires.prepared in let C = c.claimed.ensures P.0 P.1 P.2 P.3 in
+    let s = c.args.seat in let put = c.put_notes-member.ensures in let V = put.same.1 in
+    let same = put.same.0.1 in
+    let has = has_deposit s.group s.member c.put_notes-member.result
+    (c.from.ensures ∙ c.number-number.ensures) same V put.kept C.prepared.one in
     let d = c.deposit-found.ensures.step C.prepared.note has in record {
       writes = ap (λ (v : View). v.part.write) d.view
           ∙ (ap (λ (v : View). v.part.write) V ∙ s.writes);
@@ -123,33 +107,26 @@ invariant_of-seat g c =
           (free_stays e v.part _ K refl (λ t b. refl)
           (subst (λ (v : View). HoldsNoTurn v.part) (sym V) s.free));
       bare = c.deposit-found.ensures.same.2
-          ∙ (ap (λ (l : List (ℕ × Slot g.row.K.Denot)). rest l) kept
+          ∙ (ap (λ (l : List (ℕ × Slot g.row.K.Denot)). rest l) put.kept
           ∙ ap (λ (l : List (ℕ × Slot g.row.K.Denot)). rest l) s.carries);
       rests = c.deposit-found.ensures.rests;
     }
 
 pub returns-clause-same : goal.returns-clause-same
 returns-clause-same g c =
-    let P = c.requires.prepared in
-    let C = c.claimed.ensures P.0 P.1 P.2 P.3 in
-    let s = c.args.seat in
-    let at : 1 + 2 * c.from.result + s.group % 2 ≡ box_of s.member.number s.group =
-    ap (λ (n : ℕ). 1 + 2 * n + s.group % 2) (c.from.ensures ∙ c.number-number.ensures) in
-    let V = c.put_notes-member.ensures.same.1 in
-    let same = c.put_notes-member.ensures.same.0.1 in
-    let kept = c.put_notes-member.ensures.kept in
-    let has = kept ∙ (λ i. (
-      (at ∙ ap (λ (n : ℕ). box_of n s.group) (sym same)) i,
-      Notes ((sym (ap (λ (v : View). v.hands.notes) V)) i ++ C.prepared.one i),
-    ) ∷ (sym (ap (λ (l : List (ℕ × Slot g.row.K.Denot)). rest l) kept)) i) in
+    let P = c.requires.prepared in let C = c.claimed.ensures P.0 P.1 P.2 P.3 in
+    let s = c.args.seat in let put = c.put_notes-member.ensures in let V = put.same.1 in
+    let same = put.same.0.1 in
+    let has = has_deposit s.group s.member c.put_notes-member.result
+    (c.from.ensures ∙ c.number-number.ensures) same V put.kept C.prepared.one in
     let d = c.deposit-found.ensures.step C.prepared.note has in
-    let put = c.deposit-found.ensures.same in (
+    let home = c.deposit-found.ensures.same in (
       (
         (
-          put.0 ∙ (c.put_notes-member.ensures.same.0.0 ∙ c.requires.table.0),
+          home.0 ∙ (put.same.0.0 ∙ c.requires.table.0),
           ap (λ (v : View). v.size) d.view ∙ (ap (λ (v : View). v.size) V ∙ c.requires.table.1),
         ),
-        put.1 ∙ same,
+        home.1 ∙ same,
       ),
       refl,
       refl,
@@ -158,18 +135,11 @@ returns-clause-same g c =
 
 pub returns-clause-step : goal.returns-clause-step
 returns-clause-step g c =
-    let P = c.requires.prepared in
-    let C = c.claimed.ensures P.0 P.1 P.2 P.3 in
-    let s = c.args.seat in
-    let at : 1 + 2 * c.from.result + s.group % 2 ≡ box_of s.member.number s.group =
-    ap (λ (n : ℕ). 1 + 2 * n + s.group % 2) (c.from.ensures ∙ c.number-number.ensures) in
-    let V = c.put_notes-member.ensures.same.1 in
-    let same = c.put_notes-member.ensures.same.0.1 in
-    let kept = c.put_notes-member.ensures.kept in
-    let has = kept ∙ (λ i. (
-      (at ∙ ap (λ (n : ℕ). box_of n s.group) (sym same)) i,
-      Notes ((sym (ap (λ (v : View). v.hands.notes) V)) i ++ C.prepared.one i),
-    ) ∷ (sym (ap (λ (l : List (ℕ × Slot g.row.K.Denot)). rest l) kept)) i) in
+    let P = c.requires.prepared in let C = c.claimed.ensures P.0 P.1 P.2 P.3 in
+    let s = c.args.seat in let put = c.put_notes-member.ensures in let V = put.same.1 in
+    let same = put.same.0.1 in
+    let has = has_deposit s.group s.member c.put_notes-member.result
+    (c.from.ensures ∙ c.number-number.ensures) same V put.kept C.prepared.one in
     let d = c.deposit-found.ensures.step C.prepared.note has in (
       C.prepared.note,
       c.deposit-found.result,
@@ -184,18 +154,11 @@ returns-clause-step g c =
 
 pub returns-clause-listed : goal.returns-clause-listed
 returns-clause-listed g c =
-    let P = c.requires.prepared in
-    let C = c.claimed.ensures P.0 P.1 P.2 P.3 in
-    let s = c.args.seat in
-    let at : 1 + 2 * c.from.result + s.group % 2 ≡ box_of s.member.number s.group =
-    ap (λ (n : ℕ). 1 + 2 * n + s.group % 2) (c.from.ensures ∙ c.number-number.ensures) in
-    let V = c.put_notes-member.ensures.same.1 in
-    let same = c.put_notes-member.ensures.same.0.1 in
-    let kept = c.put_notes-member.ensures.kept in
-    let has = kept ∙ (λ i. (
-      (at ∙ ap (λ (n : ℕ). box_of n s.group) (sym same)) i,
-      Notes ((sym (ap (λ (v : View). v.hands.notes) V)) i ++ C.prepared.one i),
-    ) ∷ (sym (ap (λ (l : List (ℕ × Slot g.row.K.Denot)). rest l) kept)) i) in
+    let P = c.requires.prepared in let C = c.claimed.ensures P.0 P.1 P.2 P.3 in
+    let s = c.args.seat in let put = c.put_notes-member.ensures in let V = put.same.1 in
+    let same = put.same.0.1 in
+    let has = has_deposit s.group s.member c.put_notes-member.result
+    (c.from.ensures ∙ c.number-number.ensures) same V put.kept C.prepared.one in
     let d = c.deposit-found.ensures.step C.prepared.note has in record {
       note = C.prepared.note;
       list = ap (λ (v : View). writes_of v.trail) d.view
@@ -213,18 +176,11 @@ returns-clause-listed g c =
 
 pub returns-clause-holds : goal.returns-clause-holds
 returns-clause-holds g c =
-    let P = c.requires.prepared in
-    let C = c.claimed.ensures P.0 P.1 P.2 P.3 in
-    let s = c.args.seat in
-    let at : 1 + 2 * c.from.result + s.group % 2 ≡ box_of s.member.number s.group =
-    ap (λ (n : ℕ). 1 + 2 * n + s.group % 2) (c.from.ensures ∙ c.number-number.ensures) in
-    let V = c.put_notes-member.ensures.same.1 in
-    let same = c.put_notes-member.ensures.same.0.1 in
-    let kept = c.put_notes-member.ensures.kept in
-    let has = kept ∙ (λ i. (
-      (at ∙ ap (λ (n : ℕ). box_of n s.group) (sym same)) i,
-      Notes ((sym (ap (λ (v : View). v.hands.notes) V)) i ++ C.prepared.one i),
-    ) ∷ (sym (ap (λ (l : List (ℕ × Slot g.row.K.Denot)). rest l) kept)) i) in
+    let P = c.requires.prepared in let C = c.claimed.ensures P.0 P.1 P.2 P.3 in
+    let s = c.args.seat in let put = c.put_notes-member.ensures in let V = put.same.1 in
+    let same = put.same.0.1 in
+    let has = has_deposit s.group s.member c.put_notes-member.result
+    (c.from.ensures ∙ c.number-number.ensures) same V put.kept C.prepared.one in
     let d = c.deposit-found.ensures.step C.prepared.note has in
     let none = c.deposit-found.ensures.unapplied C.prepared.note has in
     let n = C.prepared.note in
@@ -243,18 +199,11 @@ returns-clause-holds g c =
 
 pub returns-clause-unapplied : goal.returns-clause-unapplied
 returns-clause-unapplied g c =
-    let P = c.requires.prepared in
-    let C = c.claimed.ensures P.0 P.1 P.2 P.3 in
-    let s = c.args.seat in
-    let at : 1 + 2 * c.from.result + s.group % 2 ≡ box_of s.member.number s.group =
-    ap (λ (n : ℕ). 1 + 2 * n + s.group % 2) (c.from.ensures ∙ c.number-number.ensures) in
-    let V = c.put_notes-member.ensures.same.1 in
-    let same = c.put_notes-member.ensures.same.0.1 in
-    let kept = c.put_notes-member.ensures.kept in
-    let has = kept ∙ (λ i. (
-      (at ∙ ap (λ (n : ℕ). box_of n s.group) (sym same)) i,
-      Notes ((sym (ap (λ (v : View). v.hands.notes) V)) i ++ C.prepared.one i),
-    ) ∷ (sym (ap (λ (l : List (ℕ × Slot g.row.K.Denot)). rest l) kept)) i) in
+    let P = c.requires.prepared in let C = c.claimed.ensures P.0 P.1 P.2 P.3 in
+    let s = c.args.seat in let put = c.put_notes-member.ensures in let V = put.same.1 in
+    let same = put.same.0.1 in
+    let has = has_deposit s.group s.member c.put_notes-member.result
+    (c.from.ensures ∙ c.number-number.ensures) same V put.kept C.prepared.one in
     let none = c.deposit-found.ensures.unapplied C.prepared.note has in
     λ a h is. absurd (none a h (is ∙ sym (C.ends ∙ P.4)))
 

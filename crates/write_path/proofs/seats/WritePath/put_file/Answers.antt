@@ -42,10 +42,8 @@ put_table-member-requires-clause-put g c = let L = c.last_upper-member in
 
 pub retire_put-requires-clause-table : goal.retire_put-requires-clause-table
 retire_put-requires-clause-table g c =
-    let m = c.args.member in let L = c.last_upper-member in let P = c.put_table-member in
-    let v = m.seat.me.0 in let view = P.ensures.same.1 ∙ L.ensures.same.1 in
-    let others = P.ensures.same.2 ∙ ap (λ l. rest l) L.ensures.same.2 in
-    let number = P.ensures.same.0.1 ∙ L.ensures.same.0.1 in (
+    let L = c.last_upper-member in let P = c.put_table-member in
+    let view = P.ensures.same.1 ∙ L.ensures.same.1 in (
       P.ensures.same.0.0 ∙ (L.ensures.same.0.0 ∙ c.requires.table.0),
       ap (λ (u : View). u.size) view ∙ c.requires.table.1,
     )
@@ -53,26 +51,20 @@ retire_put-requires-clause-table g c =
 pub retire_put-requires-clause-turns : goal.retire_put-requires-clause-turns
 retire_put-requires-clause-turns g c =
     let m = c.args.member in let L = c.last_upper-member in let P = c.put_table-member in
-    let v = m.seat.me.0 in let view = P.ensures.same.1 ∙ L.ensures.same.1 in
+    let view = P.ensures.same.1 ∙ L.ensures.same.1 in
     let others = P.ensures.same.2 ∙ ap (λ l. rest l) L.ensures.same.2 in
-    let number = P.ensures.same.0.1 ∙ L.ensures.same.0.1 in
     turns_same c.args.table.0 m.seat.me P.result.0.seat.me view others c.requires.holds.turns
 
 pub retire_put-requires-clause-turn : goal.retire_put-requires-clause-turn
-retire_put-requires-clause-turn g c =
-    let m = c.args.member in let L = c.last_upper-member in let P = c.put_table-member in
-    let v = m.seat.me.0 in let view = P.ensures.same.1 ∙ L.ensures.same.1 in
-    let others = P.ensures.same.2 ∙ ap (λ l. rest l) L.ensures.same.2 in
-    let number = P.ensures.same.0.1 ∙ L.ensures.same.0.1 in
+retire_put-requires-clause-turn g c = let L = c.last_upper-member in let P = c.put_table-member in
+    let view = P.ensures.same.1 ∙ L.ensures.same.1 in
     let T = c.requires.turn in
     (subst (λ (u : View). TurnSynced u.part c.args.synced) (sym view) T.0, T.1, T.2)
 
 pub retire_put-requires-clause-file : goal.retire_put-requires-clause-file
 retire_put-requires-clause-file g c =
     let m = c.args.member in let L = c.last_upper-member in let P = c.put_table-member in
-    let v = m.seat.me.0 in let view = P.ensures.same.1 ∙ L.ensures.same.1 in
-    let others = P.ensures.same.2 ∙ ap (λ l. rest l) L.ensures.same.2 in
-    let number = P.ensures.same.0.1 ∙ L.ensures.same.0.1 in (
+    let v = m.seat.me.0 in let view = P.ensures.same.1 ∙ L.ensures.same.1 in (
       c.args.cells.now,
       subst (λ (u : View). AwaitsFile c.args.self.now.table.size.seats c.args.table.0
           c.args.memtable c.args.bound.0 c.args.cells.now u) (sym view) c.requires.awaits,
@@ -82,20 +74,15 @@ retire_put-requires-clause-file g c =
     )
 
 pub retire_put-requires-clause-lower : goal.retire_put-requires-clause-lower
-retire_put-requires-clause-lower g c =
-    let m = c.args.member in let L = c.last_upper-member in let P = c.put_table-member in
-    let v = m.seat.me.0 in let view = P.ensures.same.1 ∙ L.ensures.same.1 in
-    let others = P.ensures.same.2 ∙ ap (λ l. rest l) L.ensures.same.2 in
-    let number = P.ensures.same.0.1 ∙ L.ensures.same.0.1 in
+retire_put-requires-clause-lower g c = let L = c.last_upper-member in let P = c.put_table-member in
+    let view = P.ensures.same.1 ∙ L.ensures.same.1 in
     L.ensures.upper ∙ ap (λ (u : View). upper_of c.args.table.0 u.hands.lasting.filed.files)
     (sym view)
 
 pub note_fault-requires-clause-table : goal.note_fault-requires-clause-table
 note_fault-requires-clause-table g c =
-    let m = c.args.member in let L = c.last_upper-member in let P = c.put_table-member in
-    let v = m.seat.me.0 in let view = P.ensures.same.1 ∙ L.ensures.same.1 in
-    let others = P.ensures.same.2 ∙ ap (λ l. rest l) L.ensures.same.2 in
-    let number = P.ensures.same.0.1 ∙ L.ensures.same.0.1 in (
+    let L = c.last_upper-member in let P = c.put_table-member in
+    let view = P.ensures.same.1 ∙ L.ensures.same.1 in (
       P.ensures.same.0.0 ∙ (L.ensures.same.0.0 ∙ c.requires.table.0),
       ap (λ (u : View). u.size) view ∙ c.requires.table.1,
     )
@@ -103,20 +90,15 @@ note_fault-requires-clause-table g c =
 pub note_fault-requires-clause-turns : goal.note_fault-requires-clause-turns
 note_fault-requires-clause-turns g c =
     let m = c.args.member in let L = c.last_upper-member in let P = c.put_table-member in
-    let v = m.seat.me.0 in let view = P.ensures.same.1 ∙ L.ensures.same.1 in
+    let view = P.ensures.same.1 ∙ L.ensures.same.1 in
     let others = P.ensures.same.2 ∙ ap (λ l. rest l) L.ensures.same.2 in
-    let number = P.ensures.same.0.1 ∙ L.ensures.same.0.1 in
     let T = c.requires.turn.0 in (
       turns_same c.args.table.0 m.seat.me P.result.0.seat.me view others c.requires.holds.turns,
       subst (λ (u : View). FoundRunning u.part) (sym view) (T.0, T.1, T.2),
     )
 
 pub note_fault-requires-clause-desk : goal.note_fault-requires-clause-desk
-note_fault-requires-clause-desk g c =
-    let m = c.args.member in let L = c.last_upper-member in let P = c.put_table-member in
-    let v = m.seat.me.0 in let view = P.ensures.same.1 ∙ L.ensures.same.1 in
-    let others = P.ensures.same.2 ∙ ap (λ l. rest l) L.ensures.same.2 in
-    let number = P.ensures.same.0.1 ∙ L.ensures.same.0.1 in
+note_fault-requires-clause-desk g c = let L = c.last_upper-member in let P = c.put_table-member in
     let shows = shows_of g.K.Keeper.holds in let h = L.result.0.seat.me.0.hands in
     subst (λ (u : View). CarriesNoted shows (stopped_after u.hands.lasting.stopped c.in-Err.fault)
     P.result.0.seat.me) (sym P.ensures.same.1)
@@ -126,10 +108,8 @@ note_fault-requires-clause-desk g c =
 
 pub note_fault-requires-clause-counts : goal.note_fault-requires-clause-counts
 note_fault-requires-clause-counts g c =
-    let m = c.args.member in let L = c.last_upper-member in let P = c.put_table-member in
-    let v = m.seat.me.0 in let view = P.ensures.same.1 ∙ L.ensures.same.1 in
-    let others = P.ensures.same.2 ∙ ap (λ l. rest l) L.ensures.same.2 in
-    let number = P.ensures.same.0.1 ∙ L.ensures.same.0.1 in (
+    let L = c.last_upper-member in let P = c.put_table-member in
+    let view = P.ensures.same.1 ∙ L.ensures.same.1 in (
       subst (λ (u : View). TellsFault u.hands.lasting.at_open c.in-Err.fault)
           (sym P.ensures.same.1) (tells_so L.result.0.seat.me.0.hands.lasting.at_open P.result.1
           c.in-Err.fault c.in-Err.is P.ensures.counts),
@@ -138,10 +118,7 @@ note_fault-requires-clause-counts g c =
     )
 
 pub returns-in-Ok-clause-same : goal.returns-in-Ok-clause-same
-returns-in-Ok-clause-same g c =
-    let m = c.args.member in let L = c.last_upper-member in let P = c.put_table-member in
-    let v = m.seat.me.0 in let view = P.ensures.same.1 ∙ L.ensures.same.1 in
-    let others = P.ensures.same.2 ∙ ap (λ l. rest l) L.ensures.same.2 in
+returns-in-Ok-clause-same g c = let L = c.last_upper-member in let P = c.put_table-member in
     let number = P.ensures.same.0.1 ∙ L.ensures.same.0.1 in
     let E = c.retire_put in (E.ensures.same.0, E.ensures.same.1 ∙ number)
 
@@ -149,7 +126,6 @@ pub returns-in-Ok-clause-retired : goal.returns-in-Ok-clause-retired
 returns-in-Ok-clause-retired g c =
     let m = c.args.member in let L = c.last_upper-member in let P = c.put_table-member in
     let v = m.seat.me.0 in let view = P.ensures.same.1 ∙ L.ensures.same.1 in
-    let others = P.ensures.same.2 ∙ ap (λ l. rest l) L.ensures.same.2 in
     let number = P.ensures.same.0.1 ∙ L.ensures.same.0.1 in
     let E = c.retire_put in let t = c.args.table.0 in let k = c.args.memtable in
     let after = E.result.0.seat.me.0 in let a = E.result.1 in
@@ -157,19 +133,13 @@ returns-in-Ok-clause-retired g c =
     (subst (λ (u : View). Retired P.result.0.number t k u a after) view E.ensures.retired)
 
 pub returns-in-Err-clause-same : goal.returns-in-Err-clause-same
-returns-in-Err-clause-same g c =
-    let m = c.args.member in let L = c.last_upper-member in let P = c.put_table-member in
-    let v = m.seat.me.0 in let view = P.ensures.same.1 ∙ L.ensures.same.1 in
-    let others = P.ensures.same.2 ∙ ap (λ l. rest l) L.ensures.same.2 in
+returns-in-Err-clause-same g c = let L = c.last_upper-member in let P = c.put_table-member in
     let number = P.ensures.same.0.1 ∙ L.ensures.same.0.1 in
     let E = c.note_fault in (E.ensures.same.0, E.ensures.same.1 ∙ number)
 
 pub returns-in-Err-clause-unread : goal.returns-in-Err-clause-unread
-returns-in-Err-clause-unread g c =
-    let m = c.args.member in let L = c.last_upper-member in let P = c.put_table-member in
-    let v = m.seat.me.0 in let view = P.ensures.same.1 ∙ L.ensures.same.1 in
-    let others = P.ensures.same.2 ∙ ap (λ l. rest l) L.ensures.same.2 in
-    let number = P.ensures.same.0.1 ∙ L.ensures.same.0.1 in
+returns-in-Err-clause-unread g c = let L = c.last_upper-member in let P = c.put_table-member in
+    let view = P.ensures.same.1 ∙ L.ensures.same.1 in
     let E = c.note_fault in let A = c.requires.awaits in
     takes_none c.args.self.now.table.size.seats c.args.table.0 c.args.memtable
     E.result.0.seat.me.0.hands A.read (
@@ -184,7 +154,6 @@ pub returns-in-Err-clause-retired : goal.returns-in-Err-clause-retired
 returns-in-Err-clause-retired g c =
     let m = c.args.member in let L = c.last_upper-member in let P = c.put_table-member in
     let v = m.seat.me.0 in let view = P.ensures.same.1 ∙ L.ensures.same.1 in
-    let others = P.ensures.same.2 ∙ ap (λ l. rest l) L.ensures.same.2 in
     let number = P.ensures.same.0.1 ∙ L.ensures.same.0.1 in
     let E = c.note_fault in let t = c.args.table.0 in let k = c.args.memtable in
     let after = E.result.0.seat.me.0 in let a = E.result.1 in

@@ -1,24 +1,5 @@
-use Rattle.std.proofs.Common.{
-  ℕ,
-  ◌<◌,
-  ◌^◌,
-  [],
-  ◌∷◌,
-  Option,
-  is_some,
-  refl,
-  sym,
-  ap,
-  ◌∙◌,
-  subst,
-  None,
-}
-use Rattle.path_core.specs.declared.event.Event.TheVariants.{Raise}
-use Rattle.path_core.specs.Parts.{HoldsNoTurn}
-use Rattle.path_rule.specs.declared.view.View.{View}
-use Rattle.path_rule.specs.Layout.{bound_word}
-use Rattle.path_rule.proofs.seats.Staying.{view_columns, free_stays}
-use Rattle.write_path.specs.Ends.{writes_of}
+use Rattle.std.proofs.Common.{ℕ, Option, is_some, refl, ap}
+use Rattle.write_path.proofs.TriedOnce.{still_deposited, tried_once}
 use Rattle.write_path.proofs.seats.WritePath.raise_at.Goals as goal
 
 pub raise_bound-requires-clause-writer : goal.raise_bound-requires-clause-writer
@@ -30,49 +11,10 @@ raise_bound-requires-clause-writer g c = let s = c.args.seat.now in record {
 }
 
 pub invariant_of-seat : goal.invariant_of-seat
-invariant_of-seat g c =
-    let s = c.args.seat.now in
-    let d = c.raise_bound.ensures.step in
-    let v = s.member.seat.me.0 in
-    let e = Raise s.member.number c.args.table c.args.memtable s.end in
-    let C = view_columns v e (bound_word c.raise_bound.result) tt in record {
-      writes = ap (λ (v : View). v.part.write) d.view ∙ s.writes;
-      left = ap (λ (v : View). v.part.append) d.view ∙ s.left;
-      claims = ap (λ (v : View). v.part.claim) d.view ∙ s.claims;
-      noted = ap (λ (v : View). v.part.note) d.view ∙ s.noted;
-      few = subst (λ (n : ℕ). s.tables < 2 ^ n)
-          (sym (ap (λ (v : View). v.size.tables) d.view)) s.few;
-      free = subst (λ (v : View). HoldsNoTurn v.part) (sym d.view)
-          (free_stays e v.part _ C refl (λ t b. refl) s.free);
-      bare = c.raise_bound.ensures.same.2 ∙ s.bare;
-      rests = ap (λ (v : View). v.hands.memtable_box) d.view ∙ s.rests;
-    }
+invariant_of-seat g c = let L = c.raise_bound.ensures in
+    still_deposited c.args.seat.now L.step L.same.2
+    (refl, refl, refl, refl, refl, (λ t b. refl), tt)
 
 pub returns-clause-same : goal.returns-clause-same
-returns-clause-same g c =
-    let d = c.raise_bound.ensures.step in record {
-      member = (
-        (
-          c.raise_bound.ensures.same.0 ∙ c.requires.table.0,
-          ap (λ (v : View). v.size) d.view ∙ c.requires.table.1,
-        ),
-        c.raise_bound.ensures.same.1,
-      );
-      writing = refl;
-      start = refl;
-      end = refl;
-      tables = refl;
-      list = ap (λ (v : View). writes_of v.trail) d.view;
-      tried = record {
-        tries = record {
-          event = Raise c.args.seat.now.member.number c.args.table c.args.memtable
-              c.args.seat.now.end;
-          found = (bound_word c.raise_bound.result);
-          filed = None;
-        } ∷ [];
-        are = (refl, tt);
-        trail = ap (λ (v : View). v.trail) d.view;
-        hands = ap (λ (v : View). v.hands) d.view;
-        returned = ap (λ (v : View). v.returned) d.view;
-      };
-    }
+returns-clause-same g c = let L = c.raise_bound.ensures in
+    tried_once c.requires.table L.same L.step refl refl (refl, refl, refl, refl)

@@ -1,18 +1,15 @@
-use Rattle.std.proofs.Common.{◌<◌, ◌≤◌, ℕ, List, Some, refl, sym, ap, ◌∙◌, subst, arith}
+use Rattle.std.proofs.Common.{◌<◌, ◌≤◌, sym, ap, ◌∙◌, subst, arith}
 use Rattle.atomic_table.specs.Table.{rest}
-use Rattle.path_core.specs.declared.event.Event.TheVariants.{Look}
-use Rattle.path_core.specs.declared.event.Place.TheVariants.{Newest}
-use Rattle.path_core.specs.declared.note.EntryNote.{EntryNote}
 use Rattle.path_rule.specs.declared.view.PathSize.{PathSize}
-use Rattle.path_rule.specs.declared.view.View.{View}
-use Rattle.path_rule.specs.Boxes.{memtable_box}
-use Rattle.path_rule.specs.Calls.{DidAs}
-use Rattle.path_rule.specs.Flushes.{next_box}
-use Rattle.path_rule.specs.HandsAfter.{box_read, box_seen, with_reading}
-use Rattle.path_rule.specs.Told.{CarriesNotes}
-use Rattle.path_rule.specs.Trimmed.{IsTrimmed}
-use Rattle.write_path.proofs.FlushReadSteps.{on_read, then_read}
-use Rattle.write_path.proofs.FlushReading.{carried, none_left, one_seen, seen_no_more, the_box}
+use Rattle.write_path.proofs.FlushReading.{
+  is_carried,
+  is_trimmed,
+  may_give,
+  none_left,
+  seen_no_more,
+  sees_box,
+  the_box,
+}
 use Rattle.write_path.proofs.seats.WritePath.read_box.Goals as goal
 
 pub take_read-requires-clause-reads : goal.take_read-requires-clause-reads
@@ -30,95 +27,59 @@ pub lend_read-member-requires-clause-held : goal.lend_read-member-requires-claus
 lend_read-member-requires-clause-held g c = let H = c.requires.reads in
     let D = c.take_read.ensures.step H.read H.reads in (
       D.0,
-      carried c.args.member.seat.me c.take_read.new.member.seat.me _ c.box_number-number.result D.0
-          D.2 (the_box c.args.self.now.table.size.seats c.args.table.0 c.args.memtable
-          c.args.above.0 c.args.seat c.args.member.seat.me.0.hands H
-          ∙ (ap (λ (z : PathSize). memtable_box z.seats c.args.seat c.args.table.0 c.args.memtable)
-          (sym c.size.ensures) ∙ sym c.box_number-number.ensures)),
+      is_carried c.args.self.now.table.size.seats H c.args.member.seat.me
+          c.take_read.new.member.seat.me D
+          (the_box H c.size.ensures c.box_number-number.ensures),
     )
 
 pub give_read-requires-clause-reads : goal.give_read-requires-clause-reads
 give_read-requires-clause-reads g c = let H = c.requires.reads in
     let D = c.take_read.ensures.step H.read H.reads in let L = c.lend_read-member.ensures in
-    let R = c.return_read-member.ensures in
-    let seats = c.args.self.now.table.size.seats in
-    let box = the_box seats c.args.table.0 c.args.memtable c.args.above.0 c.args.seat
-    c.args.member.seat.me.0.hands H
-    ∙ (ap (λ (z : PathSize). memtable_box z.seats c.args.seat c.args.table.0 c.args.memtable)
-    (sym c.size.ensures) ∙ sym c.box_number-number.ensures) in
-    let lent = L.notes D.0 (carried c.args.member.seat.me c.take_read.new.member.seat.me _
-    c.box_number-number.result D.0 D.2 box) in
-    let T = subst (λ (l : List EntryNote). IsTrimmed c.args.above.0 l c.trim.new.notes) lent
-    c.trim.ensures in (
-      box_read (next_box seats H.read) D.0 H.read,
-      next_box seats H.read,
-      c.trim.new.notes,
-      ap (λ (u : View). u.hands.reading) (R.same.1 ∙ (L.same.1 ∙ D.1.view)),
-      refl,
-      subst (λ (k : ℕ). IsTrimmed k D.0 c.trim.new.notes) (sym H.from) T,
-      subst (λ (b : ℕ). CarriesNotes b c.trim.new.notes c.return_read-member.result.seat.me)
-          (sym box) R.notes,
-    )
+    let R = c.return_read-member in let taken = c.take_read.new.member.seat.me in
+    let seats = c.args.self.now.table.size.seats in let m = c.args.member.seat.me in
+    let box = the_box H c.size.ensures c.box_number-number.ensures in
+    may_give seats H m taken R.result.seat.me D (R.ensures.same.1 ∙ L.same.1) box
+    (is_trimmed seats H m taken D box L.notes c.trim.ensures) R.ensures.notes
 
 pub returns-clause-same : goal.returns-clause-same
 returns-clause-same g c = let H = c.requires.reads in let T = c.take_read.ensures in
     let D = T.step H.read H.reads in let L = c.lend_read-member.ensures in
     let R = c.return_read-member.ensures in let G = c.give_read.ensures in
-    let q = box_read (next_box c.args.self.now.table.size.seats H.read) D.0 H.read in
-    let d = G.step q (ap (λ (u : View). u.hands.reading) (R.same.1 ∙ (L.same.1 ∙ D.1.view))) in (
+    let by = R.same.0.1 ∙ (L.same.0.1 ∙ T.same.1) in
+    let S = sees_box c.args.self.now.table.size.seats H c.args.member.seat.me
+    c.take_read.new.member.seat.me D (R.same.1 ∙ L.same.1) by G.step in (
       (
         (
           G.same.0 ∙ (R.same.0.0 ∙ (L.same.0.0 ∙ (T.same.0 ∙ c.requires.table.0))),
-          ap (λ (u : View). u.size) d.view ∙ (ap (λ (u : View). u.size)
-              (R.same.1 ∙ (L.same.1 ∙ D.1.view)) ∙ c.requires.table.1),
+          S.size ∙ c.requires.table.1,
         ),
-        G.same.1 ∙ (R.same.0.1 ∙ (L.same.0.1 ∙ T.same.1)),
+        G.same.1 ∙ by,
       ),
       G.same.2 ∙ (R.others ∙ (L.others ∙ ap (λ l. rest l) D.2.1)),
     )
 
 pub returns-clause-steps : goal.returns-clause-steps
-returns-clause-steps g c = let H = c.requires.reads in let T = c.take_read in
-    let D = T.ensures.step H.read H.reads in let L = c.lend_read-member.ensures in
-    let R = c.return_read-member in let G = c.give_read in let t = c.args.table in
-    let w = c.args.member.number in
-    let q = box_read (next_box c.args.self.now.table.size.seats H.read) D.0 H.read in
-    let same = R.ensures.same.1 ∙ L.same.1 in
-    let d = G.ensures.step q (ap (λ (u : View). u.hands.reading) (same ∙ D.1.view)) in
-    let z = R.result.number in
-    then_read w z t.0 _ _ _ (R.ensures.same.0.1 ∙ (L.same.0.1 ∙ T.ensures.same.1))
-    (on_read w t.0 T.result t (Some q) _ _ D.1)
-    (on_read z t.0 G.result t (Some (box_seen q)) _ _ (subst (λ (u : View).
-    DidAs u z (Look z (Newest t)) G.result (with_reading (Some (box_seen q)) u.hands)
-    G.new.member.seat.me.0) same d))
+returns-clause-steps g c = let H = c.requires.reads in let T = c.take_read.ensures in
+    let L = c.lend_read-member.ensures.same in let R = c.return_read-member.ensures.same in
+    (sees_box c.args.self.now.table.size.seats H c.args.member.seat.me
+    c.take_read.new.member.seat.me (T.step H.read H.reads) (R.1 ∙ L.1)
+    (R.0.1 ∙ (L.0.1 ∙ T.same.1)) c.give_read.ensures.step).steps
 
 pub returns-clause-reads : goal.returns-clause-reads
-returns-clause-reads g c = let H = c.requires.reads in
-    let D = c.take_read.ensures.step H.read H.reads in let L = c.lend_read-member.ensures in
-    let R = c.return_read-member.ensures in
-    let b = next_box c.args.self.now.table.size.seats H.read in
-    let d = c.give_read.ensures.step (box_read b D.0 H.read)
-    (ap (λ (u : View). u.hands.reading) (R.same.1 ∙ (L.same.1 ∙ D.1.view))) in
-    one_seen c.args.table.0 c.args.memtable c.args.above.0 c.args.seat b D.0
-    c.args.member.seat.me.0.hands c.give_read.new.member.seat.me.0.hands H
-    (ap (λ (u : View). u.hands.reading) d.view)
+returns-clause-reads g c = let H = c.requires.reads in let T = c.take_read.ensures in
+    let L = c.lend_read-member.ensures.same in let R = c.return_read-member.ensures.same in
+    (sees_box c.args.self.now.table.size.seats H c.args.member.seat.me
+    c.take_read.new.member.seat.me (T.step H.read H.reads) (R.1 ∙ L.1)
+    (R.0.1 ∙ (L.0.1 ∙ T.same.1)) c.give_read.ensures.step).reads
 
 pub returns-clause-void : goal.returns-clause-void
-returns-clause-void g c = let H = c.requires.reads in
-    let D = c.take_read.ensures.step H.read H.reads in let L = c.lend_read-member.ensures in
-    let R = c.return_read-member.ensures in
-    let seats = c.args.self.now.table.size.seats in let b = next_box seats H.read in
-    let box = the_box seats c.args.table.0 c.args.memtable c.args.above.0 c.args.seat
-    c.args.member.seat.me.0.hands H
-    ∙ (ap (λ (z : PathSize). memtable_box z.seats c.args.seat c.args.table.0 c.args.memtable)
-    (sym c.size.ensures) ∙ sym c.box_number-number.ensures) in
-    let lent = L.notes D.0 (carried c.args.member.seat.me c.take_read.new.member.seat.me _
-    c.box_number-number.result D.0 D.2 box) in
-    let left = c.trim.new.notes in
-    let T = subst (λ (l : List EntryNote). IsTrimmed c.args.above.0 l left) lent c.trim.ensures in
-    let d = c.give_read.ensures.step (box_read b D.0 H.read)
-    (ap (λ (u : View). u.hands.reading) (R.same.1 ∙ (L.same.1 ∙ D.1.view))) in
-    λ p q was has empty. seen_no_more c.args.table.0 c.args.memtable c.args.above.0 c.args.seat b
-    D.0 left c.args.member.seat.me.0.hands c.give_read.new.member.seat.me.0.hands H
-    (ap (λ (u : View). u.hands.reading) d.view) T
-    (none_left left c.is_empty-empty.result c.is_empty-empty.ensures empty) p q was has
+returns-clause-void g c = let H = c.requires.reads in let T = c.take_read.ensures in
+    let L = c.lend_read-member.ensures in let R = c.return_read-member.ensures.same in
+    let D = T.step H.read H.reads in let m = c.args.member.seat.me in
+    let taken = c.take_read.new.member.seat.me in let seats = c.args.self.now.table.size.seats in
+    let S = sees_box seats H m taken D (R.1 ∙ L.same.1) (R.0.1 ∙ (L.same.0.1 ∙ T.same.1))
+    c.give_read.ensures.step in
+    let trimmed = is_trimmed seats H m taken D
+    (the_box H c.size.ensures c.box_number-number.ensures) L.notes c.trim.ensures in
+    λ p q was has empty. seen_no_more H S.is trimmed
+    (none_left c.trim.new.notes c.is_empty-empty.result c.is_empty-empty.ensures empty) p q was has
