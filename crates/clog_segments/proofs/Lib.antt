@@ -34,6 +34,7 @@ mod OpenedAgain
 pub mod OpenedWhole
 mod OtherFiles
 pub mod Outcomes
+mod PutBeside
 mod PutTables
 mod Ready
 mod Recovered
