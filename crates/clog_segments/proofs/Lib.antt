@@ -41,6 +41,7 @@ mod Recovered
 mod Recovery
 pub mod SegmentFiles
 mod SegmentsGo
+mod Settles
 mod ShownNotes
 mod Stays
 mod TablesYet

@@ -43,9 +43,7 @@ use Rattle.clog_segments.specs.Publishes.{
   file_at,
 }
 use Rattle.clog_segments.specs.Resting.{RestsAt, ShowsBehind}
-use Rattle.clog_segments.proofs.AtMost.{free_here, most_put, most_same}
-use Rattle.clog_segments.proofs.Ends.{end_same}
-use Rattle.clog_segments.proofs.Numbering.{keeps_same}
+use Rattle.clog_segments.proofs.AtMost.{free_here, most_put}
 use Rattle.clog_segments.proofs.OtherFiles.{
   CountsNow,
   RestsStill,
@@ -59,9 +57,10 @@ use Rattle.clog_segments.proofs.OtherFiles.{
   put_wherever,
   table_aside,
 }
-use Rattle.clog_segments.proofs.Stays.{lasts_beside, lasts_same}
+use Rattle.clog_segments.proofs.Stays.{lasts_beside}
 use Rattle.clog_segments.proofs.TablesYet.{maybe_yet, put_yet}
 use Rattle.clog_segments.proofs.Torn.{stands_beside}
+use Rattle.clog_segments.proofs.Untouched.{same_kept}
 
 module _ {D : Type 0} {files : D → Option Files} {moment : D → ℕ}
     {since : D → ℕ → Files → Type 0} {leaves : D → List ℕ → Option (List ℕ) → Type 0}
@@ -140,6 +139,9 @@ module _ {D : Type 0} {files : D → Option Files} {moment : D → ℕ}
   rests_put : Puts → RestsStill files leaves s new
   rests_put puts at on r rests = puts r s.past at old kept (may at on r rests)
 
+  rests_refused : Refuses → RestsStill files leaves s new
+  rests_refused refuses at on r rests = refuses r s.past at old kept rests
+
   -- ---- that it lives on
 
   pub put_on : Puts → LivingOn (record s { disk = new })
@@ -148,8 +150,7 @@ module _ {D : Type 0} {files : D → Option Files} {moment : D → ℕ}
 
   pub refused_on : Refuses → LivingOn (record s { disk = new })
   refused_on refuses =
-      lives_by view (passed_on keeps.0 runs counts new told later any (λ at on r rests.
-      refuses r s.past at old kept rests))
+      lives_by view (passed_on keeps.0 runs counts new told later any (rests_refused refuses))
 
   pub failed_on : LivingOn (record s { disk = new; is_stopped = true })
   failed_on = lives_by view (broken_on keeps.0 runs counts new told later any)
@@ -159,16 +160,8 @@ module _ {D : Type 0} {files : D → Option Files} {moment : D → ℕ}
   pub refused : Refuses → Unchanged (files s.disk) (files new) (leaves s.disk) (leaves new)
       → Elapses moment since leaves read_at lasted_at s.disk new
       → Keeping (record s { disk = new }) known
-  refused refuses same time = (
-    passed keeps.0 runs counts new told later any known
-        (λ at on r rests. refuses r s.past at old kept rests)
-        (end_same (files s.disk) (files new) s.id size s.sections same.files)
-        (lasts_same (segment_name_of 6 s.id) (files s.disk) (files new) (leaves s.disk)
-        (leaves new) same.files (λ left at. same.images.fewer (segment_name_of 6 s.id) left at))
-        (keeps_same (files s.disk) (files new) known same.files),
-    most_same files moment since leaves read_at lasted_at s new s.sections s.synced s.is_stopped
-        runs refl same.files same.images.fewer time keeps.1,
-  )
+  refused refuses same time =
+      same_kept keeps runs counts new same.files same.images.fewer time any (rests_refused refuses)
 
   module _ (next_now : IsNextWithin (files shown.disk) shown.id file sequence)
       (others : StayButOne own (files s.disk) (files new))

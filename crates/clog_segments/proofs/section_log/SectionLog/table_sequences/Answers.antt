@@ -13,8 +13,8 @@ pub invariant_of-self : goal.invariant_of-self
 invariant_of-self g c =
     let D = g.D.Disk in
     let is = c.list.ensures in
-    untouched c.self.invariant c.if-self.false g.met.D.Disk.only_now g.met.D.Disk.counts_now is.same
-    is.time (Some c.of-listed.result)
+    untouched c.self.invariant c.if-self.false g.met.D.Disk.counts_now c.list.new.self
+    g.met.D.Disk.only_now is.same is.time (Some c.of-listed.result)
     (λ keeps. listed_known (D.files c.self.inside.disk) (D.files c.list.new.self) c.in-Ok.names
     c.of-listed.result is.same.files c.in-Ok.ensures.names
     (subst (λ (l : List (List ℕ)). AreGreatest l c.of-listed.result.greatest)
@@ -25,15 +25,15 @@ invariant_of-self-in-Err-OutOfMemory g c =
     let D = g.D.Disk in
     let s = c.self.inside in
     let is = c.list.ensures in
-    untouched c.self.invariant c.if-self.false g.met.D.Disk.only_now g.met.D.Disk.counts_now is.same
-    is.time s.sequences
+    untouched c.self.invariant c.if-self.false g.met.D.Disk.counts_now c.list.new.self
+    g.met.D.Disk.only_now is.same is.time s.sequences
     (keeps_same (D.files s.disk) (D.files c.list.new.self) s.sequences is.same.files)
 
 pub invariant_of-self-in-Err-Failed : goal.invariant_of-self-in-Err-Failed
 invariant_of-self-in-Err-Failed g c =
     let is = c.list.ensures in
-    failed c.self.invariant c.if-self.false g.met.D.Disk.only_now g.met.D.Disk.counts_now is.same
-    is.time
+    failed c.self.invariant c.if-self.false g.met.D.Disk.counts_now c.list.new.self
+    g.met.D.Disk.only_now is.same is.time
 
 -- ---- that it lives on
 
@@ -53,22 +53,22 @@ pub returns-in-Ok-clause-lives : goal.returns-in-Ok-clause-lives
 returns-in-Ok-clause-lives g c =
     let is = c.list.ensures in
     lives_by c.self.view_is
-    (untouched_on c.self.invariant c.if-self.false g.met.D.Disk.only_now g.met.D.Disk.counts_now is.same
-    is.time)
+    (untouched_on c.self.invariant c.if-self.false g.met.D.Disk.counts_now c.list.new.self
+    g.met.D.Disk.only_now is.same is.time)
 
 pub returns-in-Err-OutOfMemory-clause-lives : goal.returns-in-Err-OutOfMemory-clause-lives
 returns-in-Err-OutOfMemory-clause-lives g c =
     let is = c.list.ensures in
     lives_by c.self.view_is
-    (untouched_on c.self.invariant c.if-self.false g.met.D.Disk.only_now g.met.D.Disk.counts_now is.same
-    is.time)
+    (untouched_on c.self.invariant c.if-self.false g.met.D.Disk.counts_now c.list.new.self
+    g.met.D.Disk.only_now is.same is.time)
 
 pub returns-in-Err-Failed-clause-lives : goal.returns-in-Err-Failed-clause-lives
 returns-in-Err-Failed-clause-lives g c =
     let is = c.list.ensures in
     lives_by c.self.view_is
-    (failed_on c.self.invariant c.if-self.false g.met.D.Disk.only_now g.met.D.Disk.counts_now is.same
-    is.time)
+    (failed_on c.self.invariant c.if-self.false g.met.D.Disk.counts_now c.list.new.self
+    g.met.D.Disk.only_now is.same is.time)
 
 -- ---- which names last
 
