@@ -16,6 +16,7 @@ mod GoodTables
 pub mod Ids
 mod ImagesOpen
 mod Kept
+mod KeepsSection
 pub mod Live
 pub mod Lived
 mod LivedCalls
