@@ -22,6 +22,7 @@ pub mod Lived
 mod LivedCalls
 mod LivedRolls
 mod Looking
+mod LooksFirst
 mod MayGo
 pub mod MostOpens
 pub mod NamesKept
@@ -40,6 +41,7 @@ mod PutTables
 mod Ready
 mod Recovered
 mod Recovery
+mod Rolls
 pub mod SegmentFiles
 mod SegmentsGo
 mod Settles
