@@ -11,8 +11,10 @@ use Rattle.std.proofs.Common.{
   length,
   Option,
   false,
+  ap₂,
   sym,
   subst,
+  ◌∙◌,
   arith,
 }
 use Rattle.clog_disk.specs.Files.{Files}
@@ -57,9 +59,14 @@ module _ {D : Type 0} {files : D → Option Files} {moment : D → ℕ}
   counted image left = counts s.disk (moment s.disk) image (omega arith) left
 
   -- it is left
-  module _ {past : List Write} {sections : List Section}
-      (past_is : past ≡ s.past ++ written s.id s.sections ∷ []) (none : sections ≡ [])
-      (some : 0 < length shown.sections) (all : shown.synced ≡ length shown.sections) where
+  module _ {past reserved : List Write} {sections gone : List Section}
+      (pushed : past ≡ reserved ++ written s.id gone ∷ []) (same : reserved ≡ s.past)
+      (all_gone : gone ≡ s.sections) (none : sections ≡ []) (some : 0 < length shown.sections) (all : shown.synced ≡ length shown.sections) where
+    past_is : past ≡ s.past ++ written s.id s.sections ∷ []
+    past_is =
+        pushed
+        ∙ ap₂ (λ (l : List Write) (x : List Section). l ++ written s.id x ∷ []) same all_gone
+
     rolls : LivingOn s (record s { past = past; id = next; sections = sections; synced = 0 })
     rolls lives =
         subst (λ (l : List Section). LivesOn files moment since leaves read_at lasted_at s
