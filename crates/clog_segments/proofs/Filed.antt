@@ -275,8 +275,8 @@ module _ {first : Files} {names : List (List ℕ)} {cells : Pairs} {top : Positi
   none_settled_now (Some now) leaves empty is =
       (filed_same first names cells top ready table now empty is.0, is.1)
 
--- A table's file that is to be put: it has cells, these bytes spell it, and its sequence is the next
--- one of the table.
+-- A table's file that is to be put: it has cells, these bytes spell it, and its sequence is the
+-- next one of the table.
 pub record IsNextFile (names : List (List ℕ)) (cells : Pairs) (top : Position) (table : Table)
     (sequence : ℕ) (bytes : List ℕ) : Type 0 where
   pub some : length (part_on table cells) ≡ 0 → ⊥

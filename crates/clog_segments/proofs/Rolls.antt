@@ -61,7 +61,8 @@ module _ {D : Type 0} {files : D → Option Files} {moment : D → ℕ}
   -- it is left
   module _ {past reserved : List Write} {sections gone : List Section}
       (pushed : past ≡ reserved ++ written s.id gone ∷ []) (same : reserved ≡ s.past)
-      (all_gone : gone ≡ s.sections) (none : sections ≡ []) (some : 0 < length shown.sections) (all : shown.synced ≡ length shown.sections) where
+      (all_gone : gone ≡ s.sections) (none : sections ≡ [])
+      (some : 0 < length shown.sections) (all : shown.synced ≡ length shown.sections) where
     past_is : past ≡ s.past ++ written s.id s.sections ∷ []
     past_is =
         pushed

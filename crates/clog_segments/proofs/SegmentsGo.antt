@@ -315,7 +315,8 @@ module _ {D : Type 0} {files : D → Option Files} {moment : D → ℕ}
     most s.is_stopped,
   )
 
-  pub all_went : GoOn [] → files new ≡ option_map (all_gone_at archives base ordinals) (files s.disk)
+  pub all_went : GoOn []
+      → files new ≡ option_map (all_gone_at archives base ordinals) (files s.disk)
       → Begun (record s { disk = new })
   all_went goes same =
       gone_by (all_gone_at archives base ordinals) [] (all_gone_else archives base ordinals) goes

@@ -106,7 +106,8 @@ returns-in-Err-clause-any_moment g c first is settled =
     c.as_slice.ensures c.top_of-top.ensures in
     c.put_tables.ensures.any_moment first r.ready (r.settled _ settled)
 
-pub returns-in-Ok-take_all_recovered-clause-any_moment : goal.returns-in-Ok-take_all_recovered-clause-any_moment
+pub returns-in-Ok-take_all_recovered-clause-any_moment :
+    goal.returns-in-Ok-take_all_recovered-clause-any_moment
 returns-in-Ok-take_all_recovered-clause-any_moment g c first is settled =
     let D = g.D.Disk in
     let r = is_read first is c.requires.held c.requires.lists c.in_ok-cells.ensures

@@ -1,4 +1,4 @@
-use Rattle.std.proofs.Common.{refl, sym, subst}
+use Rattle.std.proofs.Common.{refl, subst}
 use Rattle.clog_segments.specs.Life.{State}
 use Rattle.clog_segments.specs.Publishes.{MayHaveCome, file_at}
 use Rattle.clog_segments.proofs.Lived.{lives_still}

@@ -64,7 +64,8 @@ invariant_of-self g c =
     settled c.self.invariant c.if-self.false g.met.D.Disk.counts_now
     (c.len.ensures ∙ c.self.inside.sections.ok.0) c.if-self-len.false c.settle_sections.new.disk
     is.same is.fewer is.time is.any_moment
-    (c.len-self-inside.ensures ∙ c.self.inside.sections.ok.0) c.in-Ok.ensures.lasts c.in-Ok.ensures.here
+    (c.len-self-inside.ensures ∙ c.self.inside.sections.ok.0) c.in-Ok.ensures.lasts
+    c.in-Ok.ensures.here
 
 pub invariant_of-self-in-Err-OutOfMemory : goal.invariant_of-self-in-Err-OutOfMemory
 invariant_of-self-in-Err-OutOfMemory g c =
