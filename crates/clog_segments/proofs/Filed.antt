@@ -260,7 +260,7 @@ some_member : {A : Type 0} (l : List A) → (length l ≡ 0 → ⊥) → (x : A)
 some_member [] none = absurd (none refl)
 some_member (x ∷ xs) none = (x, here x xs)
 
-module _ (first : Files) (names : List (List ℕ)) (cells : Pairs) (top : Position)
+module _ {first : Files} {names : List (List ℕ)} {cells : Pairs} {top : Position}
     (ready : IsReady first names cells top) (table : Table) where
   -- no file is wanted
   pub none_filed_now : (told : Option Files) → part_on table cells ≡ []
@@ -275,94 +275,118 @@ module _ (first : Files) (names : List (List ℕ)) (cells : Pairs) (top : Positi
   none_settled_now (Some now) leaves empty is =
       (filed_same first names cells top ready table now empty is.0, is.1)
 
-  -- a file is put
-  module _ (some : length (part_on table cells) ≡ 0 → ⊥) (sequence : ℕ) (bytes : List ℕ)
-      (spelled : IsFileOf table bytes (file_of table start top (part_on table cells)))
-      (next : IsBase (OneHas (HasSequence table) names) 1 sequence) (fits : sequence < 2 ^ 63)
-    where
-      abbrev put : TableFile
-      put = file_of table start top (part_on table cells)
+-- A table's file that is to be put: it has cells, these bytes spell it, and its sequence is the
+-- next one of the table.
+pub record IsNextFile (names : List (List ℕ)) (cells : Pairs) (top : Position) (table : Table)
+    (sequence : ℕ) (bytes : List ℕ) : Type 0 where
+  pub some : length (part_on table cells) ≡ 0 → ⊥
+  pub spelled : IsFileOf table bytes (file_of table start top (part_on table cells))
+  pub next : IsBase (OneHas (HasSequence table) names) 1 sequence
+  pub fits : sequence < 2 ^ 63
 
-      member : (x : CellKey × Cell) × Contains (part_on table cells) x
-      member = some_member (part_on table cells) some
+-- by the cells that were built, whose count is known, and the bytes that were made of them
+pub next_file : (names : List (List ℕ)) (cells : Pairs) (top : Position) (table : Table)
+    {built : Pairs} {count sequence : ℕ} {items bytes : List ℕ} → built ≡ part_on table cells
+    → count ≡ length built → (count ≡ 0 → ⊥) → bytes ≡ items
+    → IsFileOf table items (file_of table start top built)
+    → IsBase (OneHas (HasSequence table) names) 1 sequence → sequence < 2 ^ 63
+    → IsNextFile names cells top table sequence bytes
+next_file names cells top table {items} is counted some same spelled next fits = record {
+  some = λ none. some (counted ∙ ap length is ∙ none);
+  spelled =
+      subst (λ (b : List ℕ). IsFileOf table b (file_of table start top (part_on table cells)))
+      (sym same)
+      (subst (λ (l : Pairs). IsFileOf table items (file_of table start top l)) is spelled);
+  next = next;
+  fits = fits;
+}
 
-      is_new_now : (now : Files) → IsFiledTo first cells table.0 now
-          → IsNewFile now (bytes_at now) put sequence bytes
-      is_new_now now so_far =
-          is_new first names cells top ready table member.0 member.1 now so_far sequence bytes
-          spelled next fits
+module _ {first : Files} {names : List (List ℕ)} {cells : Pairs} {top : Position}
+    (ready : IsReady first names cells top) {table : Table} {sequence : ℕ} {bytes : List ℕ}
+    (is_next : IsNextFile names cells top table sequence bytes) where
+  abbrev put : TableFile
+  put = file_of table start top (part_on table cells)
 
-      pub put_filed : (told now : Option Files) → FiledNow first cells table.0 told
-          → PutsAt told now (table_name_of table.0 sequence) (Some bytes)
-          → FiledNow first cells (table.0 + 1) now
-      put_filed None now is puts = absurd is
-      put_filed (Some f) now is puts =
-          subst (λ (o : Option Files). FiledNow first cells (table.0 + 1) o) (sym puts)
-          (filed_more first names cells top ready table member.0 member.1 f is sequence bytes
-          spelled next fits)
+  member : (x : CellKey × Cell) × Contains (part_on table cells) x
+  member = some_member (part_on table cells) is_next.some
 
-      pub is_put_now : (told : Option Files) → FiledNow first cells table.0 told
-          → IsRecoveryPut first (table_name_of table.0 sequence) bytes
-      is_put_now None is = absurd is
-      is_put_now (Some now) is =
-          is_put first names cells top ready table member.0 member.1 now is sequence bytes spelled
-          next fits
+  is_new_now : (now : Files) → IsFiledTo first cells table.0 now
+      → IsNewFile now (bytes_at now) put sequence bytes
+  is_new_now now so_far =
+      is_new first names cells top ready table member.0 member.1 now so_far sequence bytes
+      is_next.spelled is_next.next is_next.fits
 
-      pub named_now : (told : Option Files) → FiledNow first cells table.0 told
-          → IsTableName (table_name_of table.0 sequence) table.0 sequence
-      named_now None is = absurd is
-      named_now (Some now) is =
-          named first names cells top ready table member.0 member.1 now is sequence bytes spelled
-          next fits
+  pub put_filed : (told now : Option Files) → FiledNow first cells table.0 told
+      → PutsAt told now (table_name_of table.0 sequence) (Some bytes)
+      → FiledNow first cells (table.0 + 1) now
+  put_filed None now is puts = absurd is
+  put_filed (Some f) now is puts =
+      subst (λ (o : Option Files). FiledNow first cells (table.0 + 1) o) (sym puts)
+      (filed_more first names cells top ready table member.0 member.1 f is sequence bytes
+      is_next.spelled is_next.next is_next.fits)
 
-      -- what came, where it was perhaps put
-      came_after : (f : Files) (now : Option Files) → IsFiledTo first cells table.0 f
-          → MayPutAt (Some f) now (table_name_of table.0 sequence) (Some bytes)
-          → Told now (AreRecoveryPuts first)
-      came_after f now filed maybe = elim maybe [
-        | inl still ↦
-            subst (λ (o : Option Files). Told o (AreRecoveryPuts first)) (sym still) filed.came
-        | inr puts ↦
-            subst (λ (o : Option Files). Told o (AreRecoveryPuts first)) (sym puts)
-            (filed_more first names cells top ready table member.0 member.1 f filed sequence
-            bytes spelled next fits).came
-      ]
+  pub is_put_now : (told : Option Files) → FiledNow first cells table.0 told
+      → IsRecoveryPut first (table_name_of table.0 sequence) bytes
+  is_put_now None is = absurd is
+  is_put_now (Some now) is =
+      is_put first names cells top ready table member.0 member.1 now is sequence bytes
+      is_next.spelled is_next.next is_next.fits
 
-      stays_with : (f : Files) (now : Option Files) → IsFiledTo first cells table.0 f
-          → Told now (λ g. (other : List ℕ) → (other ≡ table_name_of table.0 sequence → ⊥)
-          → finmap.get g other ≡ finmap.get f other) → Told now (AreRecoveryPuts first)
-          → Told now (IsSameFolder first) → Told now (IsFullFolder first)
-      stays_with f None filed others came same = absurd same
-      stays_with f (Some g) filed others came same = (
-        same,
-        λ other its there.
-            others other (λ e.
-            let no : Some its ≡ None =
-            sym there ∙ ap (finmap.get first) e ∙ (is_put_now (Some f) filed).free in
-            cc)
-            ∙ filed.stand other its there,
-        came,
-      )
+  pub named_now : (told : Option Files) → FiledNow first cells table.0 told
+      → IsTableName (table_name_of table.0 sequence) table.0 sequence
+  named_now None is = absurd is
+  named_now (Some now) is =
+      named first names cells top ready table member.0 member.1 now is sequence bytes
+      is_next.spelled is_next.next is_next.fits
 
-      -- it was refused
-      pub refused_filed : (told now : Option Files) → FiledNow first cells table.0 told
-          → StayButOne (table_name_of table.0 sequence) told now
-          → MayPutAt told now (table_name_of table.0 sequence) (Some bytes)
-          → Told now (IsSameFolder first) → Told now (IsFullFolder first)
-      refused_filed None now is stay maybe same = absurd is
-      refused_filed (Some f) now is stay maybe same =
-          stays_with f now is (stay f refl) (came_after f now is maybe) same
+  -- what came, where it was perhaps put
+  came_after : (f : Files) (now : Option Files) → IsFiledTo first cells table.0 f
+      → MayPutAt (Some f) now (table_name_of table.0 sequence) (Some bytes)
+      → Told now (AreRecoveryPuts first)
+  came_after f now filed maybe = elim maybe [
+    | inl still ↦
+        subst (λ (o : Option Files). Told o (AreRecoveryPuts first)) (sym still) filed.came
+    | inr puts ↦
+        subst (λ (o : Option Files). Told o (AreRecoveryPuts first)) (sym puts)
+        (filed_more first names cells top ready table member.0 member.1 f filed sequence
+        bytes is_next.spelled is_next.next is_next.fits).came
+  ]
 
-      pub may_come_to : (told : Option Files) → FiledNow first cells table.0 told
-          → MayComeTo first told put sequence bytes
-      may_come_to None is = absurd is
-      may_come_to (Some now) is = (is.same, is_new_now now is)
+  stays_with : (f : Files) (now : Option Files) → IsFiledTo first cells table.0 f
+      → Told now (λ g. (other : List ℕ) → (other ≡ table_name_of table.0 sequence → ⊥)
+      → finmap.get g other ≡ finmap.get f other) → Told now (AreRecoveryPuts first)
+      → Told now (IsSameFolder first) → Told now (IsFullFolder first)
+  stays_with f None filed others came same = absurd same
+  stays_with f (Some g) filed others came same = (
+    same,
+    λ other its there.
+        others other (λ e.
+        let no : Some its ≡ None =
+        sym there ∙ ap (finmap.get first) e ∙ (is_put_now (Some f) filed).free in
+        cc)
+        ∙ filed.stand other its there,
+    came,
+  )
 
-      pub may_come_here : (told : Option Files) (leaves : List ℕ → Option (List ℕ) → Type 0)
-          → SettledTo first cells table.0 told leaves
-          → MayComeHere first told leaves put sequence bytes
-      may_come_here None leaves is = absurd is
-      may_come_here (Some now) leaves is = (is.1, is.0.same, is_new_now now is.0)
+  -- it was refused
+  pub refused_filed : (told now : Option Files) → FiledNow first cells table.0 told
+      → StayButOne (table_name_of table.0 sequence) told now
+      → MayPutAt told now (table_name_of table.0 sequence) (Some bytes)
+      → Told now (IsSameFolder first) → Told now (IsFullFolder first)
+  refused_filed None now is stay maybe same = absurd is
+  refused_filed (Some f) now is stay maybe same =
+      stays_with f now is (stay f refl) (came_after f now is maybe) same
+
+  pub may_come_to : (told : Option Files) → FiledNow first cells table.0 told
+      → MayComeTo first told put sequence bytes
+  may_come_to None is = absurd is
+  may_come_to (Some now) is = (is.same, is_new_now now is)
+
+  pub may_come_here : (told : Option Files) (leaves : List ℕ → Option (List ℕ) → Type 0)
+      → SettledTo first cells table.0 told leaves
+      → MayComeHere first told leaves put sequence bytes
+  may_come_here None leaves is = absurd is
+  may_come_here (Some now) leaves is = (is.1, is.0.same, is_new_now now is.0)
 
 pub settled_with : (first : Files) (cells : Pairs) (n : ℕ) (told : Option Files)
     (leaves : List ℕ → Option (List ℕ) → Type 0) → FiledNow first cells n told
@@ -370,28 +394,13 @@ pub settled_with : (first : Files) (cells : Pairs) (n : ℕ) (told : Option File
 settled_with first cells n None leaves filed is = absurd filed
 settled_with first cells n (Some now) leaves filed is = (filed, is.0)
 
--- the bytes, by the cells of the table
-pub spelled_of : (table : Table) (cells built : Pairs) (top : Position) (items bytes : List ℕ)
-    → built ≡ part_on table cells → bytes ≡ items
-    → IsFileOf table items (file_of table start top built)
-    → IsFileOf table bytes (file_of table start top (part_on table cells))
-spelled_of table cells built top items bytes is same spelled =
-    subst (λ (b : List ℕ). IsFileOf table b (file_of table start top (part_on table cells)))
-    (sym same)
-    (subst (λ (l : Pairs). IsFileOf table items (file_of table start top l)) is spelled)
-
-pub some_of : (table : Table) (cells built : Pairs) (n : ℕ) → built ≡ part_on table cells
-    → n ≡ length built → (n ≡ 0 → ⊥) → length (part_on table cells) ≡ 0 → ⊥
-some_of table cells built n is count some none =
-    some (count ∙ ap length is ∙ none)
-
 nothing_of : (l : Pairs) → length l ≡ 0 → l ≡ []
 nothing_of [] none = refl
 nothing_of (x ∷ xs) none = cc
 
-pub none_of : (table : Table) (cells built : Pairs) (n : ℕ) → built ≡ part_on table cells
-    → n ≡ length built → n ≡ 0 → part_on table cells ≡ []
-none_of table cells built n is count none =
+pub none_of : (table : Table) (cells : Pairs) {built : Pairs} {n : ℕ}
+    → built ≡ part_on table cells → n ≡ length built → n ≡ 0 → part_on table cells ≡ []
+none_of table cells is count none =
     nothing_of (part_on table cells) (sym (ap length is) ∙ sym count ∙ none)
 
 pub filed_told : (first : Files) (cells : Pairs) (n : ℕ) (told : Option Files)

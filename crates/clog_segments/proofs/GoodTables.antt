@@ -21,13 +21,14 @@ use Rattle.std.specs.Prelude.{IsSome}
 use Rattle.std.specs.FinMap as finmap
 use Rattle.clog_spec.specs.Names.{IsTableName}
 use Rattle.clog_base.specs.declared.cell.Table.{Table}
-use Rattle.clog_base.proofs.NameLaws.{archive_is_no_table, one_table}
+use Rattle.clog_base.proofs.NameLaws.{archive_is_no_table}
 use Rattle.clog_disk.specs.Files.{Files}
 use Rattle.clog_disk.proofs.Named.{same_or_other}
 use Rattle.clog_table.specs.declared.table_file.TableFile.{TableFile}
 use Rattle.clog_table.specs.Refusals.{IsFileOf}
 use Rattle.clog_crash.specs.Folder.{AreGoodTables, IsGoodTable, IsHeld, IsNameOf, Place}
 use Rattle.clog_crash.proofs.changes.Names.{not_segment}
+use Rattle.clog_crash.proofs.flush.NewFile.{one_place}
 use Rattle.clog_segments.specs.OnDisk.{file_on}
 use Rattle.clog_segments.specs.StoreFailed.{HoldsButOne}
 use Rattle.clog_segments.specs.StoreFolder.{Deeds, HoldsStore, PlacedFile, StoreLog, name_of}
@@ -38,22 +39,42 @@ use Rattle.clog_segments.proofs.FolderReads.{one_or_none}
 abbrev GoodAt : Files → Place → List ℕ → Type 0
 GoodAt files place name = (file : TableFile) × IsGoodTable files place name file
 
--- what stands there is a file that was put
+-- what is spelled under a table file's name is good
+pub good_spelled : (files : Files) (place : Place) (name bytes : List ℕ) (file : TableFile)
+    (sequence : ℕ) → IsNameOf place name → IsTableName name file.table.0 sequence
+    → finmap.get files name ≡ Some bytes → IsFileOf file.table bytes file
+    → GoodAt files place name
+good_spelled files place name bytes file sequence at named there spelled = (
+  file,
+  record {
+    bytes = bytes;
+    there = there;
+    spelled = subst (λ (t : Table). IsFileOf t bytes file)
+        (one_place name file.table place.0 sequence place.1 named at) spelled;
+  },
+)
+
+-- what reads as a good one did is good
+pub good_same : (first files : Files) (place : Place) (name : List ℕ) → AreGoodTables first
+    → IsNameOf place name → finmap.get files name ≡ finmap.get first name → IsHeld files name
+    → GoodAt files place name
+good_same first files place name good at same held =
+    let was = good place name at (subst IsSome same held) in (
+      was.0,
+      record {
+        bytes = was.1.bytes;
+        there = same ∙ was.1.there;
+        spelled = was.1.spelled;
+      },
+    )
+
+-- as a file that was put
 placed_good : (base : ℕ) (files : Files) (place : Place) (name : List ℕ) (p : PlacedFile)
     → IsNameOf place name → IsTableName name p.put.table p.sequence
     → finmap.get files name ≡ Some p.bytes
     → IsFileOf (file_on base p.put).table p.bytes (file_on base p.put) → GoodAt files place name
 placed_good base files place name p at named there spelled =
-    let same : p.put.table ≡ place.0.0 =
-    (one_table name p.put.table p.sequence place.0.0 place.1 named at).0 in (
-      file_on base p.put,
-      record {
-        bytes = p.bytes;
-        there = there;
-        spelled = subst (λ (t : Table). IsFileOf t p.bytes (file_on base p.put))
-            (λ i. record { 0 = same i }) spelled;
-      },
-    )
+    good_spelled files place name p.bytes (file_on base p.put) p.sequence at named there spelled
 
 module _ (first : Files) (log : StoreLog) (deeds : Deeds) (low : AreBelow log)
     (fits : log.id < 2 ^ 63) (good : AreGoodTables first) where
@@ -77,16 +98,9 @@ module _ (first : Files) (log : StoreLog) (deeds : Deeds) (low : AreBelow log)
     good_of_old : ((p : PlacedFile) → Contains holds.placed p → name ≡ name_of p → ⊥)
         → GoodAt files place name
     good_of_old none =
-        let old : finmap.get files name ≡ finmap.get first name =
-        same ∙ table_elsewhere first f log deeds holds low fits name place.0.0 place.1 at none in
-        let was = good place name at (subst IsSome old held) in (
-          was.0,
-          record {
-            bytes = was.1.bytes;
-            there = old ∙ was.1.there;
-            spelled = was.1.spelled;
-          },
-        )
+        good_same first files place name good at
+        (same ∙ table_elsewhere first f log deeds holds low fits name place.0.0 place.1 at none)
+        held
 
     pub good_held : GoodAt files place name
     good_held =

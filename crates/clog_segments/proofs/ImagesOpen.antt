@@ -42,6 +42,7 @@ use Rattle.clog_folder.proofs.Listed.{held_of}
 use Rattle.clog_segments.specs.Filing.{ComesFrom, IsRecoveryPut}
 use Rattle.clog_segments.specs.Named.{IsLateTable, id_limit, sequence_limit}
 use Rattle.clog_segments.specs.Opened.{CanBeOpened, KeepsFolder, SequencesAreBelow}
+use Rattle.clog_segments.proofs.GoodTables.{good_same, good_spelled}
 
 -- what stands for a log ends in a segment of it
 upper_named : (first : Files) (file : TableFile) → IsRecoveryFile (bytes_at first) file
@@ -68,25 +69,10 @@ module _ (first image : Files) (can : CanBeOpened first) (few : SequencesAreBelo
   tables place name named held =
       let is = come name held in
       elim is.2 [
-        | inl same ↦
-            let good = can.readable.tables place name named (ap is_some same) in
-            let bytes : Some good.1.bytes ≡ Some is.0 = sym good.1.there ∙ same in (
-              good.0,
-              record {
-                bytes = good.1.bytes;
-                there = is.1 ∙ sym bytes;
-                spelled = good.1.spelled;
-              },
-            )
-        | inr put ↦
-            let its = one_place name place.0 put.file.table place.1 put.sequence named put.named in (
-              put.file,
-              record {
-                bytes = is.0;
-                there = is.1;
-                spelled = subst (λ (t : Table). IsFileOf t is.0 put.file) (sym its) put.spelled;
-              },
-            )
+        | inl same ↦ good_same first image place name can.readable.tables named (is.1 ∙ sym same)
+            held
+        | inr put ↦ good_spelled image place name is.0 put.file put.sequence named put.named is.1
+            put.spelled
       ]
 
   none_long : (name : List ℕ) (id : ℕ) → IsSegmentName name 6 id → ¬ IsTooLong image name

@@ -16,11 +16,13 @@ mod GoodTables
 pub mod Ids
 mod ImagesOpen
 mod Kept
+mod KeepsSection
 pub mod Live
 pub mod Lived
 mod LivedCalls
 mod LivedRolls
 mod Looking
+mod LooksFirst
 mod MayGo
 pub mod MostOpens
 pub mod NamesKept
@@ -34,12 +36,15 @@ mod OpenedAgain
 pub mod OpenedWhole
 mod OtherFiles
 pub mod Outcomes
+mod PutBeside
 mod PutTables
 mod Ready
 mod Recovered
 mod Recovery
+mod Rolls
 pub mod SegmentFiles
 mod SegmentsGo
+mod Settles
 mod ShownNotes
 mod Stays
 mod TablesYet

@@ -53,6 +53,7 @@ use Rattle.clog_segments.specs.Opened.{CanBeOpened, HasRoomFor}
 use Rattle.clog_segments.specs.StoreFolder.{Deeds, StoreLog}
 use Rattle.clog_segments.specs.StoreImages.{HoldsAtMost, IsBroughtAtMost, IsWithinLimits}
 use Rattle.clog_segments.proofs.AllGo.{archive_named}
+use Rattle.clog_segments.proofs.GoodTables.{good_same, good_spelled}
 
 module _ (first image : Files) (log : StoreLog) (deeds : Deeds) (can : CanBeOpened first)
     (room : HasRoomFor first (length deeds.files + 2)) (limits : IsWithinLimits log)
@@ -145,27 +146,12 @@ module _ (first image : Files) (log : StoreLog) (deeds : Deeds) (can : CanBeOpen
   tables place name named held =
       let is = come name held in
       elim is.2 [
-        | inl same ↦
-            let good = can.readable.tables place name named (ap is_some same) in
-            let bytes : Some good.1.bytes ≡ Some is.0 = sym good.1.there ∙ same in (
-              good.0,
-              record {
-                bytes = good.1.bytes;
-                there = is.1 ∙ sym bytes;
-                spelled = good.1.spelled;
-              },
-            )
+        | inl same ↦ good_same first image place name can.readable.tables named (is.1 ∙ sym same)
+            held
         | inr brought ↦
             let put = table_brought name is.0 place.0.0 place.1 named brought in
-            let its = one_place name place.0 put.file.table place.1 put.sequence named
-            put.named in (
-              put.file,
-              record {
-                bytes = is.0;
-                there = is.1;
-                spelled = subst (λ (t : Table). IsFileOf t is.0 put.file) (sym its) put.spelled;
-              },
-            )
+            good_spelled image place name is.0 put.file put.sequence named put.named is.1
+            put.spelled
       ]
 
   none_long : (name : List ℕ) (id : ℕ) → IsSegmentName name 6 id → ¬ IsTooLong image name

@@ -44,6 +44,7 @@ use Rattle.clog_segments.specs.Publishes.{IsTrueHere, MayPut}
 use Rattle.clog_segments.specs.Torn.{HandStands}
 use Rattle.clog_segments.proofs.Anywhere.{true_wherever}
 use Rattle.clog_segments.proofs.Begun.{begun_on}
+use Rattle.clog_segments.proofs.Lived.{lives_from}
 use Rattle.clog_segments.proofs.LivedCalls.{lives_same, lives_stopped}
 
 -- ---- the files
@@ -133,20 +134,42 @@ table_aside id name table sequence named other from limit same =
 
 -- ---- the log
 
-module _ {D : Type 0} (files : D → Option Files) (moment : D → ℕ)
-    (since : D → ℕ → Files → Type 0) (leaves : D → List ℕ → Option (List ℕ) → Type 0)
-    (read_at : D → ℕ → Option Reading) (lasted_at : D → ℕ → Type 0) (s : State D) (size : ℕ)
-    (new : D) {known : Option Sequences}
-    (begun : HasBegun files moment since leaves read_at lasted_at s size known)
-    (runs : s.is_stopped ≡ false)
-    (counts : (image : Files) → IsImage (leaves new) image → since new (moment s.disk) image)
-    (told : SameTold (files s.disk) (files new))
-    (later : IsLater moment read_at lasted_at s.disk new)
-    (any_moment : (at : ℕ) → MayGoOnIn s.id s.sections at → (r : Reading)
+-- a moment of a disk is one of those since an earlier one
+abbrev pub CountsNow : {D : Type 0} → (D → ℕ) → (D → ℕ → Files → Type 0)
+    → (D → List ℕ → Option (List ℕ) → Type 0) → Type 0
+CountsNow {D} moment since leaves =
+    (d : D) (from : ℕ) (image : Files) → from ≤ moment d → IsImage (leaves d) image
+    → since d from image
+
+-- its disk becomes another, which is at rest with all that the log has
+abbrev pub RestsStill : {D : Type 0} → (D → Option Files)
+    → (D → List ℕ → Option (List ℕ) → Type 0) → State D → D → Type 0
+RestsStill files leaves s new =
+    (at : ℕ) → MayGoOnIn s.id s.sections at → (r : Reading)
+    → RestsAt (files s.disk) (leaves s.disk) r s.past at (take s.synced s.sections)
+    (drop s.synced s.sections)
+    → RestsAt (files new) (leaves new) r s.past at (take s.synced s.sections)
+    (drop s.synced s.sections)
+
+-- and meanwhile each image shows what lasts
+abbrev pub ShowsMeanwhile : {D : Type 0} → (D → Option Files) → (D → ℕ)
+    → (D → ℕ → Files → Type 0) → (D → List ℕ → Option (List ℕ) → Type 0) → State D → D → Type 0
+ShowsMeanwhile files moment since leaves s new =
+    (at : ℕ) → MayGoOnIn s.id s.sections at → (r : Reading)
     → RestsAt (files s.disk) (leaves s.disk) r s.past at (take s.synced s.sections)
     (drop s.synced s.sections)
     → LeavesOnly moment since s.disk new (ShowsBehind r s.past at (take s.synced s.sections)
-    (drop s.synced s.sections))) where
+    (drop s.synced s.sections))
+
+module _ {D : Type 0} {files : D → Option Files} {moment : D → ℕ}
+    {since : D → ℕ → Files → Type 0} {leaves : D → List ℕ → Option (List ℕ) → Type 0}
+    {read_at : D → ℕ → Option Reading} {lasted_at : D → ℕ → Type 0} {s : State D} {size : ℕ}
+    {known : Option Sequences}
+    (begun : HasBegun files moment since leaves read_at lasted_at s size known)
+    (runs : s.is_stopped ≡ false) (counts : CountsNow moment since leaves) (new : D)
+    (told : SameTold (files s.disk) (files new))
+    (later : IsLater moment read_at lasted_at s.disk new)
+    (any_moment : ShowsMeanwhile files moment since leaves s new) where
   abbrev Living : State D → Type 0
   Living t = Lives files moment since leaves read_at lasted_at t
 
@@ -156,23 +179,17 @@ module _ {D : Type 0} (files : D → Option Files) (moment : D → ℕ)
   abbrev Begun : State D → Option Sequences → Type 0
   Begun t now = HasBegun files moment since leaves read_at lasted_at t size now
 
+  counted : (image : Files) → IsImage (leaves new) image → since new (moment s.disk) image
+  counted image left = counts new (moment s.disk) image later.no_sooner left
+
   -- it lives on
-  pub passed_on : ((at : ℕ) → MayGoOnIn s.id s.sections at → (r : Reading)
-      → RestsAt (files s.disk) (leaves s.disk) r s.past at (take s.synced s.sections)
-      (drop s.synced s.sections)
-      → RestsAt (files new) (leaves new) r s.past at (take s.synced s.sections)
-      (drop s.synced s.sections)) → Living s → LivingOn (record s { disk = new })
+  pub passed_on : RestsStill files leaves s new → Living s → LivingOn (record s { disk = new })
   passed_on same lives =
-      lives_same files moment since leaves read_at lasted_at s new runs lives counts told later
+      lives_same files moment since leaves read_at lasted_at s new runs lives counted told later
       any_moment same
 
   -- what it keeps
-  pub passed : (now : Option Sequences)
-      → ((at : ℕ) → MayGoOnIn s.id s.sections at → (r : Reading)
-      → RestsAt (files s.disk) (leaves s.disk) r s.past at (take s.synced s.sections)
-      (drop s.synced s.sections)
-      → RestsAt (files new) (leaves new) r s.past at (take s.synced s.sections)
-      (drop s.synced s.sections))
+  pub passed : (now : Option Sequences) → RestsStill files leaves s new
       → (HasEnd (files s.disk) s.id size s.sections → HasEnd (files new) s.id size s.sections)
       → (Lasts (files s.disk) (leaves s.disk) (segment_name_of 6 s.id)
       → Lasts (files new) (leaves new) (segment_name_of 6 s.id))
@@ -188,7 +205,7 @@ module _ {D : Type 0} (files : D → Option Files) (moment : D → ℕ)
   -- where the disk has failed
   pub broken_on : Living s → LivingOn (record s { disk = new; is_stopped = true })
   broken_on lives =
-      lives_stopped files moment since leaves read_at lasted_at s new runs lives counts told later
+      lives_stopped files moment since leaves read_at lasted_at s new runs lives counted told later
       any_moment
 
   pub broken : HandStands (files new) s.id s.synced s.sections
@@ -198,3 +215,16 @@ module _ {D : Type 0} (files : D → Option Files) (moment : D → ℕ)
       known begun later begun.few begun.stored (λ going. absurd (true≢false going))
       (λ stopped. stands) (λ going. absurd (true≢false going)) (λ going. absurd (true≢false going))
       broken_on
+
+-- what lives on from its own fields does so from what its model shows of them
+pub lives_by : {D : Type 0} {files : D → Option Files} {moment : D → ℕ}
+    {since : D → ℕ → Files → Type 0} {leaves : D → List ℕ → Option (List ℕ) → Type 0}
+    {read_at : D → ℕ → Option Reading} {lasted_at : D → ℕ → Type 0} {s shown now : State D}
+    → s ≡ shown → (Lives files moment since leaves read_at lasted_at s
+    → LivesOn files moment since leaves read_at lasted_at s now)
+    → Lives files moment since leaves read_at lasted_at shown
+    → LivesOn files moment since leaves read_at lasted_at shown now
+lives_by {files = files} {moment = moment} {since = since} {leaves = leaves} {read_at = read_at}
+    {lasted_at = lasted_at} view on lives =
+    lives_from files moment since leaves read_at lasted_at view
+    (on (subst (Lives files moment since leaves read_at lasted_at) (sym view) lives))

@@ -1,8 +1,6 @@
 -- What a call's outcome leads to.
-use Rattle.std.proofs.Common.{◌≡◌, ◌≢◌, ℕ, List, Option, ◌∙◌, sym, ap, subst}
+use Rattle.std.proofs.Common.{◌≡◌, ℕ, List, Option, ◌∙◌}
 use Rattle.std.specs.Prelude.{Result, Ok, Err, IfOk, OnOk, OnErr}
-use Rattle.clog_disk.specs.declared.disk.DiskFault.{DiskFault}
-use Rattle.clog_disk.specs.declared.disk.DiskFault.TheVariants.{Failed, OutOfMemory}
 use Rattle.clog_disk.specs.Files.{Files}
 use Rattle.clog_disk.specs.Images.{Elapses, IsImage, LeavesOnly}
 use Rattle.clog_disk.proofs.Moments.{started, goes_on}
@@ -40,11 +38,3 @@ pub if_ok_same : {A E B : Type 0} (result : Result A E) (f : A → B) (x y : B)
     → IfOk result (λ a. f a ≡ x) → x ≡ y → IfOk result (λ a. f a ≡ y)
 if_ok_same (Ok a) f x y is same = is ∙ same
 if_ok_same (Err e) f x y is same = tt
-
--- what is so of each outcome but a failure is so where memory was refused
-pub no_failure : {A P : Type 0} (result : Result A DiskFault) {fault : DiskFault}
-    → result ≡ Err fault → fault ≡ OutOfMemory → (result ≢ Err Failed → OnErr result P) → P
-no_failure {A} {P} result {fault} is memory so =
-    let refused : result ≡ Err OutOfMemory = is ∙ ap Err memory in
-    subst (λ (r : Result A DiskFault). OnErr r P) refused
-    (so (λ failed. let no : Err OutOfMemory ≡ Err Failed = sym refused ∙ failed in cc))

@@ -11,6 +11,7 @@ use Rattle.std.proofs.Common.{
   ◌++◌,
   get_or,
   map,
+  take,
   Option,
   Contains,
   refl,
@@ -45,7 +46,9 @@ use Rattle.clog_cells.proofs.Parts.{members_of_part}
 use Rattle.clog_disk.specs.declared.change.Change.{Change}
 use Rattle.clog_disk.specs.declared.change.Change.TheVariants as change
 use Rattle.clog_disk.specs.Files.{Files, bytes_at}
+use Rattle.clog_crash.specs.Folder.{IsHeld}
 use Rattle.clog_crash.specs.Readings.{IsLoggedCellIn}
+use Rattle.clog_segments.specs.Coming.{HaveRemoved}
 use Rattle.clog_segments.specs.Filing.{
   HasPut,
   HasPutFrom,
@@ -55,7 +58,15 @@ use Rattle.clog_segments.specs.Filing.{
   IsRecoveryPut,
   publish,
 }
-use Rattle.clog_segments.proofs.Changed.{nothing_put, put_behind}
+use Rattle.clog_segments.specs.Named.{AreSegmentIds}
+use Rattle.clog_segments.specs.Opened.{RecoversAll, RecoversFirst}
+use Rattle.clog_segments.proofs.Changed.{
+  ids_held,
+  nothing_put,
+  put_behind,
+  then_all,
+  then_some,
+}
 use Rattle.clog_segments.proofs.Ended.{row_of, table_there}
 
 abbrev Changes : Type 0
@@ -206,3 +217,22 @@ all_live first names cells top ready before now has pair c =
     let row = row_of (IsLoggedCellIn (bytes_at first)) cells pair.0 pair.1
     (found_at cells pair.0) refl (ready.live.newest pair.0) c in
     has.each (pair.0, row.0) row.1 (omega arith) (table_there (bytes_at first) pair c)
+
+-- they have come, and then segments go
+module _ {first : Files} {names : List (List ℕ)} {cells : Pairs} {top : Position}
+    {before mid : Changes} {ids : List ℕ} (ready : IsReady first names cells top)
+    (are : AreSegmentIds (Contains names) ids)
+    (has : HasPutFrom first cells 0 most_tables before mid) where
+  held : AreSegmentIds (IsHeld first) ids
+  held = ids_held first names ready.lists ids are
+
+  pub then_gone : {now : Changes} → HaveRemoved ids mid now → RecoversAll first before now
+  then_gone {now} =
+      then_all first before mid now ids held (has_put first cells 0 most_tables before mid has)
+      (all_live first names cells top ready before mid has)
+
+  pub then_some_gone : (n : ℕ) {now : Changes} → HaveRemoved (take n ids) mid now
+      → RecoversFirst first before now
+  then_some_gone n {now} =
+      then_some first before mid now ids n held (has_put first cells 0 most_tables before mid has)
+      (all_live first names cells top ready before mid has)

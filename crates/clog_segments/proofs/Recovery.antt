@@ -33,6 +33,7 @@ use Rattle.clog_crash.proofs.OneMore.{bytes_of}
 use Rattle.clog_crash.proofs.changes.Names.{is_named}
 use Rattle.clog_crash.proofs.flush.Recovered.{same_itself}
 use Rattle.clog_folder.specs.declared.folder.Folder.{Folder}
+use Rattle.clog_folder.specs.declared.segment.SegmentHeld.{SegmentHeld}
 use Rattle.clog_folder.specs.Folder.{IsHeldOf, payloads_of}
 use Rattle.clog_folder.proofs.Listed.{held_of, listed_of}
 use Rattle.clog_segments.specs.Beside.{StayButSegments}
@@ -87,6 +88,31 @@ module _ (first : Files) (told : Option Files) (is : told ≡ Some first) (folde
   ready_told names cells top lists live is_top =
       ready_of first folder held_first cells live top is_top names
       (subst (λ (o : Option Files). Lists o names) is lists)
+
+-- A folder that was read: it is ready to be recovered, and no table's file has come yet.
+pub record IsRead (first : Files) (told : Option Files) (names : List (List ℕ)) (cells : Pairs)
+    (top : Position) : Type 1 where
+  pub ready : IsReady first names cells top
+  pub begun : FiledNow first cells 0 told
+  pub settled : (leaves : List ℕ → Option (List ℕ) → Type 0) → IsSettled first leaves
+      → SettledTo first cells 0 told leaves
+
+pub is_read : (first : Files) {told : Option Files} {folder : Folder} {names : List (List ℕ)}
+    {cells : Pairs} {top : Position} {segments : List SegmentHeld} → told ≡ Some first
+    → IsHeldOf false told folder → Lists told names
+    → AreLive folder.tables folder.segments cells → segments ≡ folder.segments
+    → IsTop (flat_map payloads_of segments) top → IsRead first told names cells top
+is_read first {told} {folder} {names} {cells} {top} is held lists live same is_top = record {
+  ready = ready_told first told is folder held names cells top lists live
+      (subst (λ (hs : List SegmentHeld). IsTop (flat_map payloads_of hs) top) same is_top);
+  begun = begins first told is folder held cells;
+  settled = begins_settled first told is folder held cells;
+}
+
+-- the ids that were read stand in a slice
+pub ids_are : {P : List ℕ → Type 0} {ids slice : List ℕ} → slice ≡ ids → AreSegmentIds P ids
+    → AreSegmentIds P slice
+ids_are {P} same are = subst (AreSegmentIds P) (sym same) are
 
 -- ---- once the files have come
 

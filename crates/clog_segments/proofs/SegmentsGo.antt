@@ -42,13 +42,14 @@ use Rattle.clog_base.proofs.NameLaws.{archive_is_no_table}
 use Rattle.clog_disk.specs.declared.disk.DiskFault.{DiskFault}
 use Rattle.clog_disk.specs.declared.disk.DiskFault.TheVariants.{Failed, OutOfMemory}
 use Rattle.clog_disk.specs.Files.{Files, SameTold}
-use Rattle.clog_disk.specs.Images.{IsImage, IsLater, Lasts, LeavesOnly}
+use Rattle.clog_disk.specs.Images.{IsLater, Lasts, LeavesOnly}
 use Rattle.clog_disk.proofs.Named.{gone_there}
 use Rattle.clog_scan.specs.Cut.{Section}
 use Rattle.clog_crash.specs.Flush.{IsCovered}
 use Rattle.clog_crash.specs.Log.{Write}
 use Rattle.clog_crash.specs.Readings.{Reading}
 use Rattle.clog_crash.proofs.changes.Names.{not_segment, one_id}
+use Rattle.clog_segments.specs.AtMost.{AddsOnly, HoldsMost, IsArchiveAmong}
 use Rattle.clog_segments.specs.Beside.{
   ImagesBut,
   IsEitherName,
@@ -70,12 +71,17 @@ use Rattle.clog_segments.specs.Resting.{RestsAt, ShowsBehind}
 use Rattle.clog_segments.specs.Torn.{HandStands}
 use Rattle.clog_segments.proofs.AllGo.{all_rest, not_archived}
 use Rattle.clog_segments.proofs.Anywhere.{covered_wherever}
+use Rattle.clog_segments.proofs.AtMost.{low_of, most_gone}
 use Rattle.clog_segments.proofs.OtherFiles.{
+  CountsNow,
   IsAside,
+  RestsStill,
+  ShowsMeanwhile,
   StandElse,
   broken,
   broken_on,
   end_aside,
+  lives_by,
   none_there,
   passed,
   passed_on,
@@ -220,21 +226,25 @@ go_wherever (Some f) leaves r past id size sections synced kept base ordinals en
 
 -- ---- the log
 
-module _ {D : Type 0} (files : D → Option Files) (moment : D → ℕ)
-    (since : D → ℕ → Files → Type 0) (leaves : D → List ℕ → Option (List ℕ) → Type 0)
-    (read_at : D → ℕ → Option Reading) (lasted_at : D → ℕ → Type 0) (s : State D) (size : ℕ)
-    (new : D) {known : Option Sequences}
-    (begun : HasBegun files moment since leaves read_at lasted_at s size known)
-    (runs : s.is_stopped ≡ false)
-    (counts : (image : Files) → IsImage (leaves new) image → since new (moment s.disk) image)
+module _ {D : Type 0} {files : D → Option Files} {moment : D → ℕ}
+    {since : D → ℕ → Files → Type 0} {leaves : D → List ℕ → Option (List ℕ) → Type 0}
+    {read_at : D → ℕ → Option Reading} {lasted_at : D → ℕ → Type 0} {s shown : State D} {size : ℕ}
+    {known : Option Sequences} (view : s ≡ shown)
+    (keeps : HasBegun files moment since leaves read_at lasted_at s size known
+    × HoldsMost files moment since leaves s)
+    (runs : s.is_stopped ≡ false) (counts : CountsNow moment since leaves) (new : D)
     (told : SameTold (files s.disk) (files new))
     (later : IsLater moment read_at lasted_at s.disk new) (archives : Bool) (base : ℕ)
     (ordinals : List ℕ)
-    (covered : CoveredHere (files s.disk) s.id (take s.synced s.sections) base ordinals)
+    (covered : CoveredHere (files shown.disk) shown.id (take shown.synced shown.sections) base
+    ordinals)
     (any_moment : (r : Reading) (past : List Write) (last : ℕ) (old kept : List Section)
     → MayAllGo (files s.disk) (leaves s.disk) r past last old kept base ordinals
     → LeavesOnly moment since s.disk new (ShowsBehind r past last old kept))
-    (elsewhere : ImagesBut (IsOfGone base ordinals) (leaves s.disk) (leaves new)) where
+    (elsewhere : ImagesBut (IsOfGone base ordinals) (leaves s.disk) (leaves new))
+    (adds_only : (f : Files) → files s.disk ≡ Some f
+    → AddsOnly files moment since leaves s.disk new
+    (IsArchiveAmong (leaves s.disk) base ordinals)) where
   abbrev old : List Section
   old = take s.synced s.sections
 
@@ -245,10 +255,11 @@ module _ {D : Type 0} (files : D → Option Files) (moment : D → ℕ)
   Living t = Lives files moment since leaves read_at lasted_at t
 
   abbrev LivingOn : State D → Type 0
-  LivingOn t = LivesOn files moment since leaves read_at lasted_at s t
+  LivingOn t = LivesOn files moment since leaves read_at lasted_at shown t
 
   abbrev Begun : State D → Type 0
   Begun t = HasBegun files moment since leaves read_at lasted_at t size known
+      × HoldsMost files moment since leaves t
 
   -- these may still go
   abbrev GoOn : List ℕ → Type 0
@@ -257,48 +268,61 @@ module _ {D : Type 0} (files : D → Option Files) (moment : D → ℕ)
       → MayAllGo (files s.disk) (leaves s.disk) r past last old kept base ordinals
       → MayAllGo (files new) (leaves new) r past last old kept base others
 
+  covered_first : CoveredHere (files s.disk) s.id old base ordinals
+  covered_first =
+      subst (λ (st : State D). CoveredHere (files st.disk) st.id (take st.synced st.sections) base
+      ordinals) (sym view) covered
+
   may : (at : ℕ) → MayGoOnIn s.id s.sections at → (r : Reading)
       → RestsAt (files s.disk) (leaves s.disk) r s.past at old kept
       → MayAllGo (files s.disk) (leaves s.disk) r s.past at old kept base ordinals
   may at on r rests =
       go_wherever (files s.disk) (leaves s.disk) r s.past s.id size s.sections s.synced kept base
-      ordinals (begun.ends runs) covered at on rests
+      ordinals (keeps.0.ends runs) covered_first at on rests
 
-  any : (at : ℕ) → MayGoOnIn s.id s.sections at → (r : Reading)
-      → RestsAt (files s.disk) (leaves s.disk) r s.past at old kept
-      → LeavesOnly moment since s.disk new (ShowsBehind r s.past at old kept)
+  any : ShowsMeanwhile files moment since leaves s new
   any at on r rests = any_moment r s.past at old kept (may at on r rests)
 
+  rest_on : (others : List ℕ) → GoOn others → RestsStill files leaves s new
+  rest_on others goes at on r rests =
+      all_rest (files new) (leaves new) r s.past at old kept base others
+      (goes r s.past at old kept (may at on r rests))
+
+  most : (stopped : Bool)
+      → HoldsMost files moment since leaves (record s { disk = new; is_stopped = stopped })
+  most stopped =
+      most_gone files moment since leaves s new base ordinals stopped runs told later.no_sooner
+      adds_only (low_of (files s.disk) s.id old base ordinals covered_first) keeps.1
+
   -- some have gone, and others may still go
-  gone_on : (others : List ℕ) → GoOn others → Living s → LivingOn (record s { disk = new })
+  gone_on : (others : List ℕ) → GoOn others → Living shown → LivingOn (record s { disk = new })
   gone_on others goes =
-      passed_on files moment since leaves read_at lasted_at s size new begun runs counts told later
-      any (λ at on r rests. all_rest (files new) (leaves new) r s.past at old kept base others
-      (goes r s.past at old kept (may at on r rests)))
+      lives_by view (passed_on keeps.0 runs counts new told later any (rest_on others goes))
 
   gone_by : (change : Files → Files) (others : List ℕ)
       → ((f : Files) → StandElse (IsOfGone base ordinals) f (change f)) → GoOn others
       → files new ≡ option_map change (files s.disk) → Begun (record s { disk = new })
-  gone_by change others else goes same =
-      passed files moment since leaves read_at lasted_at s size new begun runs counts told later
-      any known (λ at on r rests. all_rest (files new) (leaves new) r s.past at old kept base others
-      (goes r s.past at old kept (may at on r rests)))
-      (end_by (files s.disk) (files new) change s.id size s.sections old base ordinals covered
-      else same)
-      (lasts_by (files s.disk) (files new) change s.id old base ordinals (leaves s.disk)
-      (leaves new) covered else same elsewhere begun.stored.fits)
-      (keeps_by (files s.disk) (files new) known (IsOfGone base ordinals) change else
-      (λ f is name table n named of. gone_no_table base ordinals s.id begun.stored.fits
-      (λ o listed. (subst (λ (o : Option Files). CoveredHere o s.id old base ordinals) is covered o
-      listed).below) name table n named of) same)
+  gone_by change others else goes same = (
+    passed keeps.0 runs counts new told later any known (rest_on others goes)
+        (end_by (files s.disk) (files new) change s.id size s.sections old base ordinals
+        covered_first else same)
+        (lasts_by (files s.disk) (files new) change s.id old base ordinals (leaves s.disk)
+        (leaves new) covered_first else same elsewhere keeps.0.stored.fits)
+        (keeps_by (files s.disk) (files new) known (IsOfGone base ordinals) change else
+        (λ f is name table n named of. gone_no_table base ordinals s.id keeps.0.stored.fits
+        (λ o listed. (subst (λ (o : Option Files). CoveredHere o s.id old base ordinals) is
+        covered_first o listed).below) name table n named of) same),
+    most s.is_stopped,
+  )
 
-  pub all_went : GoOn [] → files new ≡ option_map (all_gone_at archives base ordinals) (files s.disk)
+  pub all_went : GoOn []
+      → files new ≡ option_map (all_gone_at archives base ordinals) (files s.disk)
       → Begun (record s { disk = new })
   all_went goes same =
       gone_by (all_gone_at archives base ordinals) [] (all_gone_else archives base ordinals) goes
       same
 
-  pub all_on : GoOn [] → Living s → LivingOn (record s { disk = new })
+  pub all_on : GoOn [] → Living shown → LivingOn (record s { disk = new })
   all_on goes = gone_on [] goes
 
   pub first_went : (n : ℕ) (is_named : Bool) → GoOn (drop n ordinals)
@@ -309,14 +333,13 @@ module _ {D : Type 0} (files : D → Option Files) (moment : D → ℕ)
       gone_by (first_gone_at archives base ordinals n is_named) (drop n ordinals)
       (first_gone_else archives base ordinals n is_named) goes same
 
-  pub first_on : (n : ℕ) → GoOn (drop n ordinals) → Living s → LivingOn (record s { disk = new })
+  pub first_on : (n : ℕ) → GoOn (drop n ordinals) → Living shown
+      → LivingOn (record s { disk = new })
   first_on n goes = gone_on (drop n ordinals) goes
 
   -- the disk has failed
-  pub some_on : Living s → LivingOn (record s { disk = new; is_stopped = true })
-  some_on =
-      broken_on files moment since leaves read_at lasted_at s size new begun runs counts told later
-      any
+  pub some_on : Living shown → LivingOn (record s { disk = new; is_stopped = true })
+  some_on = lives_by view (broken_on keeps.0 runs counts new told later any)
 
   -- what stands of the segment at hand
   hand : (change : Files → Files) (name : List ℕ) → IsOfGone base ordinals name
@@ -325,21 +348,22 @@ module _ {D : Type 0} (files : D → Option Files) (moment : D → ℕ)
       → HandStands (files new) s.id s.synced s.sections
   hand change name of else others =
       stands_behind (files s.disk) (files new) s.id s.synced s.sections name change told (λ f is.
-      let aside = gone_aside base ordinals s.id begun.stored.fits (λ o listed.
-      (subst (λ (o : Option Files). CoveredHere o s.id old base ordinals) is covered o
-      listed).below) s.id (omega arith) begun.stored.fits in (
+      let aside = gone_aside base ordinals s.id keeps.0.stored.fits (λ o listed.
+      (subst (λ (o : Option Files). CoveredHere o s.id old base ordinals) is covered_first o
+      listed).below) s.id (omega arith) keeps.0.stored.fits in (
         else f (segment_name_of 6 s.id) aside,
         λ same. aside (subst (IsOfGone base ordinals) (sym same) of),
-      )) others begun.stands
+      )) others keeps.0.stands
 
   pub some_went : (n : ℕ) (is_named : Bool) (name : List ℕ) → n < length ordinals
       → NamesSegment archives (base + get_or ordinals n 0) name
       → StayButOne name
       (option_map (first_gone_at archives base ordinals n is_named) (files s.disk)) (files new)
       → Begun (record s { disk = new; is_stopped = true })
-  some_went n is_named name inside names others =
-      broken files moment since leaves read_at lasted_at s size new begun runs counts told later
-      any
-      (hand (first_gone_at archives base ordinals n is_named) name
-      (get_or ordinals n 0, Contains-get_or ordinals n 0 inside, either_of archives _ name names)
-      (first_gone_else archives base ordinals n is_named) others)
+  some_went n is_named name inside names others = (
+    broken keeps.0 runs counts new told later any
+        (hand (first_gone_at archives base ordinals n is_named) name
+        (get_or ordinals n 0, Contains-get_or ordinals n 0 inside, either_of archives _ name names)
+        (first_gone_else archives base ordinals n is_named) others),
+    most true,
+  )

@@ -1,7 +1,6 @@
 use Rattle.std.proofs.Common.{Option, refl, subst}
 use Rattle.std.specs.Prelude.{Ok, Err}
 use Rattle.clog_disk.specs.Files.{Files, Lists}
-use Rattle.clog_folder.proofs.Passing.{both, one_call}
 use Rattle.clog_segments.proofs.Looking.{
   few_of,
   from_folder,
@@ -10,6 +9,7 @@ use Rattle.clog_segments.proofs.Looking.{
   limit_refused,
   many_tables,
 }
+use Rattle.clog_segments.proofs.LooksFirst.{then_listed}
 use Rattle.clog_segments.proofs.opening.look.Goals as goal
 
 pub returns-in-Err-clause-looks : goal.returns-in-Err-clause-looks
@@ -70,44 +70,20 @@ returns-in-Err-base_of-clause-looks g c =
 
 pub returns-in-Err-list-clause-keeps : goal.returns-in-Err-list-clause-keeps
 returns-in-Err-list-clause-keeps g c =
-    let D = g.D.Disk in
-    let old = c.args.disk.now in
-    let mid = c.read_folder.new.disk in
-    let new = c.list.new.self in
-    both D.files D.changes D.leaves D.moment D.since D.read_at D.lasted_at D.faults old mid new
-    c.read_folder.ensures.keeps
-    (one_call D.files D.changes D.leaves D.moment D.since D.read_at D.lasted_at D.faults mid new
-    c.list.ensures.same c.list.ensures.quiet c.list.ensures.time c.list.ensures.cause.later)
+    let is = c.list.ensures in
+    then_listed c.read_folder.ensures.keeps is.same is.quiet is.time is.cause.later
 
 pub returns-then-has_late_table-clause-keeps : goal.returns-then-has_late_table-clause-keeps
 returns-then-has_late_table-clause-keeps g c =
-    let D = g.D.Disk in
-    let old = c.args.disk.now in
-    let mid = c.read_folder.new.disk in
-    let new = c.list.new.self in
-    both D.files D.changes D.leaves D.moment D.since D.read_at D.lasted_at D.faults old mid new
-    c.read_folder.ensures.keeps
-    (one_call D.files D.changes D.leaves D.moment D.since D.read_at D.lasted_at D.faults mid new
-    c.list.ensures.same c.list.ensures.quiet c.list.ensures.time c.list.ensures.cause.later)
+    let is = c.list.ensures in
+    then_listed c.read_folder.ensures.keeps is.same is.quiet is.time is.cause.later
 
 pub returns-in-Ok-base_of-clause-keeps : goal.returns-in-Ok-base_of-clause-keeps
 returns-in-Ok-base_of-clause-keeps g c =
-    let D = g.D.Disk in
-    let old = c.args.disk.now in
-    let mid = c.read_folder.new.disk in
-    let new = c.list.new.self in
-    both D.files D.changes D.leaves D.moment D.since D.read_at D.lasted_at D.faults old mid new
-    c.read_folder.ensures.keeps
-    (one_call D.files D.changes D.leaves D.moment D.since D.read_at D.lasted_at D.faults mid new
-    c.list.ensures.same c.list.ensures.quiet c.list.ensures.time c.list.ensures.cause.later)
+    let is = c.list.ensures in
+    then_listed c.read_folder.ensures.keeps is.same is.quiet is.time is.cause.later
 
 pub returns-in-Err-base_of-clause-keeps : goal.returns-in-Err-base_of-clause-keeps
 returns-in-Err-base_of-clause-keeps g c =
-    let D = g.D.Disk in
-    let old = c.args.disk.now in
-    let mid = c.read_folder.new.disk in
-    let new = c.list.new.self in
-    both D.files D.changes D.leaves D.moment D.since D.read_at D.lasted_at D.faults old mid new
-    c.read_folder.ensures.keeps
-    (one_call D.files D.changes D.leaves D.moment D.since D.read_at D.lasted_at D.faults mid new
-    c.list.ensures.same c.list.ensures.quiet c.list.ensures.time c.list.ensures.cause.later)
+    let is = c.list.ensures in
+    then_listed c.read_folder.ensures.keeps is.same is.quiet is.time is.cause.later

@@ -1,12 +1,12 @@
 use Rattle.std.proofs.Common.{List, Option, sym, subst, ◌∙◌, arith}
 use Rattle.clog_disk.specs.declared.change.Change.{Change}
 use Rattle.clog_disk.specs.Files.{Files, SameTold}
-use Rattle.clog_disk.proofs.Moments.{goes_on_by, later_still, weakened}
-use Rattle.clog_disk.proofs.Telling.{same_told_self, same_told_then}
-use Rattle.clog_crash.specs.Flush.{IsSameFolder}
-use Rattle.clog_segments.specs.Opened.{KeepsFolder, RecoversAll, RecoversFirst}
+use Rattle.clog_disk.proofs.Moments.{later_still}
+use Rattle.clog_disk.proofs.Telling.{same_told_self}
+use Rattle.clog_segments.specs.Opened.{RecoversAll, RecoversFirst}
 use Rattle.clog_segments.proofs.Changed.{only_puts, put_none}
 use Rattle.clog_segments.proofs.Kept.{if_told}
+use Rattle.clog_segments.proofs.LooksFirst.{from_on, keeps_on, looks_from, looks_keep, told_on}
 use Rattle.clog_segments.proofs.OpenedWhole.{
   alone_of,
   at_rest,
@@ -14,9 +14,7 @@ use Rattle.clog_segments.proofs.OpenedWhole.{
   base_low,
   exact_told,
   has_rows,
-  image_keeps,
   is_opened,
-  keeps_same,
   known_above,
   known_settled,
   lasts_on,
@@ -25,8 +23,6 @@ use Rattle.clog_segments.proofs.OpenedWhole.{
   still_keeps,
   told_keeps,
 }
-use Rattle.clog_segments.proofs.Outcomes.{one_call}
-use Rattle.clog_segments.proofs.ComesFrom.{call_from, lasts_from, then_from, within_from}
 use Rattle.clog_segments.proofs.Recovery.{came_of, only_yet, others_of}
 use Rattle.clog_segments.proofs.opening.recover.Goals as goal
 
@@ -47,25 +43,13 @@ returns-in-Err-clause-keeps g c first is =
 
 pub returns-in-Err-clause-any_moment : goal.returns-in-Err-clause-any_moment
 returns-in-Err-clause-any_moment g c first is lasts =
-    let D = g.D.Disk in
-    let old = c.args.disk.now in
-    let mid = c.look.new.disk in
-    one_call D.moment D.since D.leaves D.read_at D.lasted_at old mid (KeepsFolder first)
-    (g.met.D.Disk.only_now old) (image_keeps first (D.leaves old) lasts)
-    c.look.ensures.keeps.time
-    (image_keeps first (D.leaves mid) (lasts_on first (D.leaves old) (D.leaves mid) lasts
-    c.look.ensures.keeps.same.images.fewer))
+    looks_keep c.look.ensures.keeps g.met.D.Disk.only_now first lasts
 
 -- ---- it is
 
 pub returns-in-Ok-recover_folder-clause-told : goal.returns-in-Ok-recover_folder-clause-told
 returns-in-Ok-recover_folder-clause-told g c =
-    let D = g.D.Disk in
-    same_told_then (D.files c.args.disk.now) (D.files c.look.new.disk)
-    (D.files c.recover_folder.new.disk)
-    (subst (λ (o : Option Files). SameTold (D.files c.args.disk.now) o)
-    (sym c.look.ensures.keeps.same.files) (same_told_self (D.files c.args.disk.now)))
-    c.recover_folder.ensures.told
+    told_on c.look.ensures.keeps c.recover_folder.new.disk c.recover_folder.ensures.told
 
 pub returns-in-Ok-recover_folder-clause-later : goal.returns-in-Ok-recover_folder-clause-later
 returns-in-Ok-recover_folder-clause-later g c =
@@ -86,33 +70,16 @@ returns-in-Ok-recover_folder-clause-keeps g c first is =
 pub returns-in-Ok-recover_folder-clause-any_moment :
     goal.returns-in-Ok-recover_folder-clause-any_moment
 returns-in-Ok-recover_folder-clause-any_moment g c first is lasts =
-    let D = g.D.Disk in
-    let old = c.args.disk.now in
-    let mid = c.look.new.disk in
-    let new = c.recover_folder.new.disk in
-    goes_on_by D.moment D.since old mid new (KeepsFolder first)
-    (one_call D.moment D.since D.leaves D.read_at D.lasted_at old mid (KeepsFolder first)
-    (g.met.D.Disk.only_now old) (image_keeps first (D.leaves old) lasts)
-    c.look.ensures.keeps.time
-    (image_keeps first (D.leaves mid) (lasts_on first (D.leaves old) (D.leaves mid) lasts
-    c.look.ensures.keeps.same.images.fewer)))
-    (weakened D.moment D.since mid new (IsSameFolder first) (KeepsFolder first)
-    (c.recover_folder.ensures.any_moment first (c.look.ensures.keeps.same.files ∙ is)
-    (known_settled first (D.files old) is c.args.moment c.in-Ok.known c.in-Ok.ensures.looks
-    (D.leaves mid) (lasts_on first (D.leaves old) (D.leaves mid) lasts
-    c.look.ensures.keeps.same.images.fewer)))
-    (λ image same. keeps_same first image same))
+    keeps_on c.look.ensures.keeps g.met.D.Disk.only_now first lasts (λ yet.
+    c.recover_folder.ensures.any_moment first (c.look.ensures.keeps.same.files ∙ is)
+    (known_settled first (g.D.Disk.files c.args.disk.now) is c.args.moment c.in-Ok.known
+    c.in-Ok.ensures.looks _ yet))
 
 -- ---- its recovery is refused
 
 pub returns-clause-told : goal.returns-clause-told
 returns-clause-told g c =
-    let D = g.D.Disk in
-    same_told_then (D.files c.args.disk.now) (D.files c.look.new.disk)
-    (D.files c.recover_folder.new.disk)
-    (subst (λ (o : Option Files). SameTold (D.files c.args.disk.now) o)
-    (sym c.look.ensures.keeps.same.files) (same_told_self (D.files c.args.disk.now)))
-    c.recover_folder.ensures.told
+    told_on c.look.ensures.keeps c.recover_folder.new.disk c.recover_folder.ensures.told
 
 pub returns-clause-later : goal.returns-clause-later
 returns-clause-later g c =
@@ -132,22 +99,10 @@ returns-clause-keeps g c first is =
 
 pub returns-clause-any_moment : goal.returns-clause-any_moment
 returns-clause-any_moment g c first is lasts =
-    let D = g.D.Disk in
-    let old = c.args.disk.now in
-    let mid = c.look.new.disk in
-    let new = c.recover_folder.new.disk in
-    goes_on_by D.moment D.since old mid new (KeepsFolder first)
-    (one_call D.moment D.since D.leaves D.read_at D.lasted_at old mid (KeepsFolder first)
-    (g.met.D.Disk.only_now old) (image_keeps first (D.leaves old) lasts)
-    c.look.ensures.keeps.time
-    (image_keeps first (D.leaves mid) (lasts_on first (D.leaves old) (D.leaves mid) lasts
-    c.look.ensures.keeps.same.images.fewer)))
-    (weakened D.moment D.since mid new (IsSameFolder first) (KeepsFolder first)
-    (c.recover_folder.ensures.any_moment first (c.look.ensures.keeps.same.files ∙ is)
-    (known_settled first (D.files old) is c.args.moment c.in-Ok.known c.in-Ok.ensures.looks
-    (D.leaves mid) (lasts_on first (D.leaves old) (D.leaves mid) lasts
-    c.look.ensures.keeps.same.images.fewer)))
-    (λ image same. keeps_same first image same))
+    keeps_on c.look.ensures.keeps g.met.D.Disk.only_now first lasts (λ yet.
+    c.recover_folder.ensures.any_moment first (c.look.ensures.keeps.same.files ∙ is)
+    (known_settled first (g.D.Disk.files c.args.disk.now) is c.args.moment c.in-Ok.known
+    c.in-Ok.ensures.looks _ yet))
 
 pub returns-in-Ok-recover_folder-clause-opens : goal.returns-in-Ok-recover_folder-clause-opens
 returns-in-Ok-recover_folder-clause-opens g c =
@@ -272,35 +227,14 @@ returns-clause-came g c first is =
 
 pub returns-in-Err-clause-images : goal.returns-in-Err-clause-images
 returns-in-Err-clause-images g c first is lasts =
-    let D = g.D.Disk in
-    let old = c.args.disk.now in
-    let mid = c.look.new.disk in
-    let from = lasts_from first (D.leaves old) lasts in
-    (call_from D.moment D.since D.leaves first D.read_at D.lasted_at old mid
-    (g.met.D.Disk.only_now old) c.look.ensures.keeps.time from
-    (within_from first (D.leaves old) (D.leaves mid) c.look.ensures.keeps.same.images.fewer
-    from)).meanwhile
+    looks_from c.look.ensures.keeps g.met.D.Disk.only_now first lasts
 
 pub returns-in-Ok-recover_folder-clause-images : goal.returns-in-Ok-recover_folder-clause-images
 returns-in-Ok-recover_folder-clause-images g c first is lasts =
-    let D = g.D.Disk in
-    let old = c.args.disk.now in
-    let mid = c.look.new.disk in
-    let from = lasts_from first (D.leaves old) lasts in
-    (then_from D.moment D.since D.leaves first old mid c.recover_folder.new.disk
-    (call_from D.moment D.since D.leaves first D.read_at D.lasted_at old mid
-    (g.met.D.Disk.only_now old) c.look.ensures.keeps.time from
-    (within_from first (D.leaves old) (D.leaves mid) c.look.ensures.keeps.same.images.fewer from))
-    (c.recover_folder.ensures.from first (c.look.ensures.keeps.same.files ∙ is))).meanwhile
+    from_on c.look.ensures.keeps g.met.D.Disk.only_now first lasts
+    (c.recover_folder.ensures.from first (c.look.ensures.keeps.same.files ∙ is))
 
 pub returns-clause-images : goal.returns-clause-images
 returns-clause-images g c first is lasts =
-    let D = g.D.Disk in
-    let old = c.args.disk.now in
-    let mid = c.look.new.disk in
-    let from = lasts_from first (D.leaves old) lasts in
-    (then_from D.moment D.since D.leaves first old mid c.recover_folder.new.disk
-    (call_from D.moment D.since D.leaves first D.read_at D.lasted_at old mid
-    (g.met.D.Disk.only_now old) c.look.ensures.keeps.time from
-    (within_from first (D.leaves old) (D.leaves mid) c.look.ensures.keeps.same.images.fewer from))
-    (c.recover_folder.ensures.from first (c.look.ensures.keeps.same.files ∙ is))).meanwhile
+    from_on c.look.ensures.keeps g.met.D.Disk.only_now first lasts
+    (c.recover_folder.ensures.from first (c.look.ensures.keeps.same.files ∙ is))
