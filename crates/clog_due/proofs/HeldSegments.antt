@@ -76,16 +76,6 @@ rest_of n xs = take_all (length xs - n) (drop n xs) (omega (arith, length-drop n
 
 -- ---- a segment is listed
 
-pub last_held : (before : List ℕ) (k : ℕ) → Contains before k → (o : ℕ)
-    → Contains before o ↔ (Contains before o ⊎ (k ≡ o))
-last_held before k there o = (
-  λ old. inl old,
-  λ either. elim either [
-    | inl old ↦ old
-    | inr same ↦ subst (Contains before) same there
-  ],
-)
-
 pub one_held : (before : List ℕ) (k o : ℕ)
     → Contains (before ++ k ∷ []) o ↔ (Contains before o ⊎ (k ≡ o))
 one_held before k o = (

@@ -39,16 +39,6 @@ pub record IsPicking (P : ℕ → Type 0) (all rest picked : List ℕ) : Type 0 
   pub left : (o : ℕ) → Contains rest o → Contains all o
   pub seen : (o : ℕ) → Contains all o → P o → Contains picked o ⊎ Contains rest o
 
-pub nothing_picked : (P : ℕ → Type 0) (all picked : List ℕ) → picked ≡ []
-    → IsStrictlySortedBy nat_cmp all → IsPicking P all all picked
-nothing_picked P all picked none sorted =
-    subst (IsPicking P all all) (sym none) (record {
-      sorted = sorted;
-      from = λ o there. absurd (nothing_there o there);
-      left = λ o there. there;
-      seen = λ o there has. inr there;
-    })
-
 pub picks_more : (P : ℕ → Type 0) (all rest next : List ℕ) (o : ℕ) (before now : List ℕ)
     → IsPicking P all rest before → rest ≡ o ∷ next → PicksIf (P o) o before now
     → IsPicking P all next now

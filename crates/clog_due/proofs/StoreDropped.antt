@@ -23,7 +23,7 @@ use Rattle.std.proofs.Common.{
   arith,
   append-nil,
 }
-use Rattle.std.specs.Prelude.{if◌then◌else◌, ◌⊎◌, Err, IfOk, IsErr, Ok, OnErr, Result}
+use Rattle.std.specs.Prelude.{if◌then◌else◌, ◌⊎◌, Err, IsErr, Ok, Result}
 use Rattle.std.proofs.lemmas.Bool.{true≢false}
 use Rattle.std.proofs.lemmas.List.{take_all}
 use base.Stored.{Gv}
@@ -31,7 +31,6 @@ use Rattle.clog_disk.specs.declared.change.Change.{Change}
 use Rattle.clog_disk.specs.Files.{Files}
 use Rattle.path_core.specs.Keeper.{DropRefused, Drops, Holding, IsNextDue, archived_with}
 use Rattle.clog_segments.specs.declared.written.StoreFault.{StoreFault}
-use Rattle.clog_segments.specs.declared.written.StoreFault.TheVariants.{Stopped, OutOfMemory}
 use Rattle.clog_due.specs.Dropping.{AreDue}
 use Rattle.clog_due.specs.StoreDrops.{
   AreDueIn,
@@ -40,7 +39,7 @@ use Rattle.clog_due.specs.StoreDrops.{
   HasLetGo,
 }
 use Rattle.clog_segments.specs.StoreFolder.{with_first_gone}
-use Rattle.clog_segments.specs.StoreState.{HasMoved, StoreState, deeds_by, holding_of, told_as}
+use Rattle.clog_segments.specs.StoreState.{HasMoved, StoreState, deeds_by, holding_of}
 use Rattle.clog_due.proofs.DroppedLists.{
   first_archived,
   first_dropped,
@@ -54,20 +53,6 @@ use Rattle.clog_due.proofs.DroppedLists.{
 }
 
 -- ---- what is answered
-
-pub drops_told : (before now : Holding) (closed at_open faults : ℕ) (r : Result ℕ StoreFault)
-    → DropsDue before now closed r
-    → IfOk (told_as at_open faults r) (λ count. Drops before now closed count)
-drops_told before now closed at_open faults (Ok count) drops = drops
-drops_told before now closed at_open faults (Err Stopped) drops = tt
-drops_told before now closed at_open faults (Err OutOfMemory) drops = tt
-
-pub drop_refused_told : (before now : Holding) (closed at_open faults : ℕ)
-    (r : Result ℕ StoreFault) → DropsDue before now closed r
-    → OnErr (told_as at_open faults r) (DropRefused before now closed)
-drop_refused_told before now closed at_open faults (Ok count) drops = tt
-drop_refused_told before now closed at_open faults (Err Stopped) drops = drops
-drop_refused_told before now closed at_open faults (Err OutOfMemory) drops = drops
 
 -- a refusal says what was dropped
 pub refused_any : (before now : Holding) (closed : ℕ) (r : Result ℕ StoreFault) → IsErr r

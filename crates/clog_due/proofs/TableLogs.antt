@@ -23,7 +23,6 @@ use Rattle.std.proofs.Common.{
   Option,
   Some,
   None,
-  refl,
   sym,
   ap,
   subst,
@@ -32,11 +31,11 @@ use Rattle.std.proofs.Common.{
   inr,
   arith,
 }
-use Rattle.std.specs.Prelude.{◌↔◌, ◌&&◌, ◌==◌, ◌⊎◌, Contains}
+use Rattle.std.specs.Prelude.{◌↔◌, ◌&&◌, ◌⊎◌, Contains}
 use Rattle.std.specs.List.{All, filter}
 use Rattle.std.proofs.lemmas.Bool.{and_parts, cases_lt, eqb-true}
 use Rattle.std.proofs.lemmas.Bool.Decides.{eqb_tells}
-use Rattle.std.proofs.lemmas.List.{append-nil, map-append, take-append-drop, take_more}
+use Rattle.std.proofs.lemmas.List.{append-nil, take-append-drop, take_more}
 use Rattle.std.proofs.lemmas.List.Elements.{
   All-cons,
   All-contains,
@@ -46,7 +45,6 @@ use Rattle.std.proofs.lemmas.List.Elements.{
   Contains-append_left,
   Contains-push,
   Contains-push_cases,
-  filter-append,
 }
 use Rattle.clog_base.specs.declared.position.Position.{Position}
 use Rattle.clog_base.specs.Positions.{IsBelow, IsUpTo, key_of, offset_of, ordinal_of, position_of}
@@ -110,12 +108,6 @@ up_to_key a b up_to = elim up_to [
 ]
 
 -- ---- files
-
-pub no_file_yet : (t : ℕ) (intervals : List Interval) → intervals ≡ [] → AreClean t [] intervals
-no_file_yet t intervals none at = (
-  λ held. absurd (subst (λ (is : List Interval). Holds is at) none held),
-  λ of. absurd (nothing_there of.0 of.1),
-)
 
 pub file_more : (t : ℕ) (files : List PutFile) (file : PutFile) (before now : List Interval)
     → AreClean t files before
@@ -206,9 +198,6 @@ entry_of_end notes o t at listed =
 
 -- ---- hulls
 
-pub no_hull_yet : (t : ℕ) (hulls : Hulls) → hulls ≡ [] → AreHulls t [] hulls
-no_hull_yet t hulls none o = subst (λ (h : Hulls). IsHull (hull_at h o) []) (sym none) refl
-
 pub own_hulls : (t : ℕ) (notes : List EntryNote) (hulls : Hulls) → ArePlaced notes
     → AreHulls t notes hulls → (o : ℕ) → IsEmptyOrOf (hull_at hulls o) o
 own_hulls t notes hulls placed are o = own (hull_at hulls o) (are o)
@@ -223,22 +212,7 @@ own_hulls t notes hulls placed are o = own (hull_at hulls o) (are o)
           place_of_segment notes o t end.note placed end.among end.is,
         )
 
-pub hulls_more : (t : ℕ) (notes : List EntryNote) (n : EntryNote) (before now : Hulls)
-    → AreHulls t notes before
-    → ((o : ℕ) (ends : List Position) → IsHull (hull_at before o) ends
-    → IsHull (hull_at now o) (ends ++ ends_of t o (n ∷ [])))
-    → AreHulls t (notes ++ n ∷ []) now
-hulls_more t notes n before now are more o =
-    subst (IsHull (hull_at now o))
-    (sym (map-append place (filter (is_of o t) notes) (filter (is_of o t) (n ∷ [])))
-    ∙ ap (map place) (sym (filter-append (is_of o t) notes (n ∷ []))))
-    (more o (ends_of t o notes) (are o))
-
 -- ---- one entry more
-
-and_none : (b : Bool) → (b && false) ≡ false
-and_none true = refl
-and_none false = refl
 
 ends_none : (t o : ℕ) (n : EntryNote) → is_of o t n ≡ false → ends_of t o (n ∷ []) ≡ []
 ends_none t o n misses = ap (λ (b : Bool). map place (cond b (n ∷ []) [])) misses
@@ -251,14 +225,6 @@ stays : (t o : ℕ) (n : EntryNote) (hull : Ends) (ends : List Position) → is_
 stays t o n hull ends misses is =
     subst (IsHull hull)
     (sym (ap (λ (l : List Position). ends ++ l) (ends_none t o n misses) ∙ append-nil ends)) is
-
-pub not_touching : (t o : ℕ) (n : EntryNote) (hull : Ends) (ends : List Position)
-    → touches n.tables t ≡ false → IsHull hull ends
-    → IsHull hull (ends ++ ends_of t o (n ∷ []))
-not_touching t o n hull ends misses is =
-    stays t o n hull ends
-    (ap (λ (b : Bool). (ordinal_of n.start.0 == o) && b) misses
-    ∙ and_none (ordinal_of n.start.0 == o)) is
 
 pub touching : (t : ℕ) (n : EntryNote) (before now : Hulls) → IsPlaced n
     → touches n.tables t ≡ true

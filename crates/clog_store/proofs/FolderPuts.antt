@@ -70,14 +70,6 @@ use Rattle.clog_segments.proofs.FolderReads.{absent_or_held, one_or_none}
 use Rattle.clog_segments.proofs.FolderNames.{AreBelow, table_elsewhere}
 use Rattle.clog_segments.proofs.NextNames.{next_taken}
 
--- the name of a table's file is that of no other place
-one_file_name : (p q : PlacedFile) → IsTableName (name_of p) p.put.table p.sequence
-    → IsTableName (name_of q) q.put.table q.sequence → name_of p ≡ name_of q
-    → p.sequence ≡ q.sequence
-one_file_name p q a b same =
-    (one_table (name_of q) p.put.table p.sequence q.put.table q.sequence
-    (subst (λ (n : List ℕ). IsTableName n p.put.table p.sequence) same a) b).1
-
 pub upper_push : (t key : ℕ) (files : List PutFile) (put : PutFile)
     → upper_from t key (files ++ put ∷ [])
     ≡ (if put.table == t then put.upper else upper_from t key files)

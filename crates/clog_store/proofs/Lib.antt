@@ -5,7 +5,7 @@ mod FolderFails
 mod FolderPuts
 mod FolderSyncs
 mod Fronts
-mod NoteBegun
+mod NoteBehind
 mod NoteCuts
 mod NoteDue
 mod NoteEnded
@@ -20,6 +20,7 @@ mod NoteNext
 pub mod NoteParts
 mod NotePasses
 mod NoteReaches
+mod NoteRun
 mod NoteSettled
 mod NoteStands
 mod NoteSynced
@@ -31,6 +32,7 @@ mod OrderSyncs
 pub mod SectionEnds
 mod SegmentLengths
 mod SeventhFile
+mod States
 mod StoreBeside
 pub mod StoreFiles
 mod StoreFolds
@@ -38,4 +40,5 @@ mod StoreImages
 pub mod StoreKept
 mod StoreLetGo
 mod StorePuts
+mod StoreSeen
 mod StoreTaking

@@ -2,7 +2,6 @@
 use Rattle.std.proofs.Common.{
   ◌≡◌,
   ℕ,
-  ◌≤◌,
   inl,
   inr,
   List,
@@ -22,21 +21,11 @@ use Rattle.std.proofs.lemmas.List.Elements.{
   Contains-append_left,
   Contains-push,
 }
-use Rattle.clog_base.proofs.Members.{only_one}
 use Rattle.clog_disk.specs.Files.{Files}
-use Rattle.clog_scan.specs.Cut.{Section}
 use Rattle.clog_crash.specs.Log.{Write}
 use Rattle.clog_segments.specs.Grows.{segments_with}
 use Rattle.clog_segments.specs.Life.{State}
 use Rattle.clog_segments.specs.NoteLog.{IsFrom, LeavesOthers}
-
--- at the beginning
-pub from_first : (id : ℕ) (sections : List Section) (w : Write)
-    → Contains (segments_with [] id sections) w → id ≤ w.id
-from_first id sections w among =
-    let same = ap (λ (x : Write). x.id)
-    (only_one (record { id = id; sections = sections }) w among) in
-    omega (arith, same)
 
 module _ {D : Type 0} (base : ℕ) (before now : State D) where
   -- nothing of the segments has changed

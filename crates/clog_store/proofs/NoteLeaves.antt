@@ -161,6 +161,10 @@ module _ {D : Type 0} (files : D → Option Files) (changes : D → Option (List
     brings = writes_of changes a b (grows_same changes a b quiet past id sections);
   }
 
+  -- nothing has changed
+  pub leaves_still : (s : State D) → Leaving s s
+  leaves_still s = leaves_same s s refl refl refl refl refl
+
   -- bytes come behind those of the segment at hand, or perhaps a part of them
   leaves_more : (a b : State D) → SameTold (files a.disk) (files b.disk)
       → StayButOne (segment_name_of 6 a.id) (files a.disk) (files b.disk) → a.id < 2 ^ 63

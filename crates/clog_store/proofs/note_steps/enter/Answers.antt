@@ -1,7 +1,7 @@
 use Rattle.std.proofs.Common.{◌<◌, ◌∙◌, length, refl, sym, ap, arith}
 use Rattle.std.proofs.lemmas.Bool.Decides.{nat_tests}
 use Rattle.clog_store.proofs.NoteGoes.{goes_rolled, goes_still, goes_then, settled_opened}
-use Rattle.clog_store.proofs.NoteLeaves.{leaves_entered, leaves_same, leaves_settled}
+use Rattle.clog_store.proofs.NoteLeaves.{leaves_entered, leaves_settled, leaves_still}
 use Rattle.clog_store.proofs.note_steps.enter.Goals as goal
 
 pub returns-clause-goes : goal.returns-clause-goes
@@ -31,8 +31,7 @@ returns-then-id-clause-goes g c =
 
 pub returns-then-id-clause-leaves : goal.returns-then-id-clause-leaves
 returns-then-id-clause-leaves g c =
-    leaves_same g.D.Disk.files g.D.Disk.changes c.args.log.now c.args.log.now refl refl refl refl
-    refl
+    leaves_still g.D.Disk.files g.D.Disk.changes c.args.log.now
 
 pub returns-clause-leaves : goal.returns-clause-leaves
 returns-clause-leaves g c =

@@ -1,4 +1,4 @@
-use Rattle.std.proofs.Common.{◌≡◌, ◌∙◌, ℕ, refl, ap, subst}
+use Rattle.std.proofs.Common.{◌≡◌, ◌∙◌, ℕ, ap, subst}
 use Rattle.clog_base.specs.declared.position.Position.{Position}
 use Rattle.clog_base.specs.Positions.{offset_of}
 use Rattle.clog_scan.specs.Cut.{Section}
@@ -7,7 +7,7 @@ use Rattle.clog_segments.specs.NoteSections.{bytes_in, first_start, size_before}
 use Rattle.clog_segments.specs.Stepped.{Keeps}
 use Rattle.clog_store.proofs.NoteGoes.{goes_still, kept_opened}
 use Rattle.clog_store.proofs.NoteGrows.{spells}
-use Rattle.clog_store.proofs.NoteLeaves.{leaves_kept, leaves_same}
+use Rattle.clog_store.proofs.NoteLeaves.{leaves_kept, leaves_still}
 use Rattle.clog_segments.proofs.NoteRuns.{brings, first_is, next_is, room, some_payloads}
 use Rattle.clog_store.proofs.note_steps.keep_notes.Goals as goal
 
@@ -69,8 +69,7 @@ returns-in-Ok-clause-leaves g c =
 
 pub returns-in-Err-clause-leaves : goal.returns-in-Err-clause-leaves
 returns-in-Err-clause-leaves g c =
-    leaves_same g.D.Disk.files g.D.Disk.changes c.args.log.now c.args.log.now refl refl refl refl
-    refl
+    leaves_still g.D.Disk.files g.D.Disk.changes c.args.log.now
 
 pub returns-in-Ok-clause-goes : goal.returns-in-Ok-clause-goes
 returns-in-Ok-clause-goes g c =

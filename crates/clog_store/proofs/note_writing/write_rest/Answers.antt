@@ -2,7 +2,7 @@ use Rattle.std.proofs.Common.{◌∙◌, refl, arith}
 use Rattle.std.proofs.lemmas.Bool.Decides.{nat_tests}
 use Rattle.std.specs.Prelude.{Err}
 use Rattle.clog_store.proofs.NoteGoes.{cause_then, goes_still, goes_then}
-use Rattle.clog_store.proofs.NoteLeaves.{leaves_same, leaves_then}
+use Rattle.clog_store.proofs.NoteLeaves.{leaves_still, leaves_then}
 use Rattle.clog_store.proofs.NoteStands.{stands_by}
 use Rattle.clog_store.proofs.note_writing.write_rest.Goals as goal
 
@@ -16,7 +16,7 @@ loop-written-init g c =
       ready = λ sizes synced logged upto ready. ready;
       goes = goes_still D.files D.moment D.since D.leaves D.read_at D.lasted_at log
           (g.met.D.Disk.only_now log.disk);
-      leaves = leaves_same D.files D.changes log log refl refl refl refl refl;
+      leaves = leaves_still D.files D.changes log;
       faults = refl;
       up = omega arith;
       still = λ all. refl;

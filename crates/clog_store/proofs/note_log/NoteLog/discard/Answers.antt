@@ -21,15 +21,5 @@ returns-clause-names_last g c =
 
 pub invariant_of-self : goal.invariant_of-self
 invariant_of-self g c =
-    let i = c.self.inside in
-    let s : NoteState g.row.D.Denot = record {
-      log = i.log;
-      base = i.base;
-      sizes = i.sizes;
-      synced = i.synced;
-      logged = i.logged.items;
-      kept = i.kept;
-      written = i.written;
-    } in
-    noted_passed s c.discard.new.self (fault_of c.discard.result) c.discard.ensures.passes
+    noted_passed _ c.discard.new.self (fault_of c.discard.result) c.discard.ensures.passes
     c.self.invariant

@@ -1,22 +1,19 @@
-use Rattle.std.proofs.Common.{◌≡◌, refl, sym, ◌∙◌, ap, subst}
+use Rattle.std.proofs.Common.{◌≡◌, sym, ◌∙◌, ap, subst}
 use Rattle.clog_segments.specs.NoteLog.{BeginsFrom, NoteState}
 use Rattle.clog_segments.proofs.Lived.{lives_still}
 use Rattle.clog_store.proofs.NoteFrom.{from_on}
-use Rattle.clog_store.proofs.NoteGrows.{grows_same, writes_of}
-use Rattle.clog_store.proofs.NoteLeaves.{leaves_same}
+use Rattle.clog_store.proofs.NoteLeaves.{leaves_still}
 use Rattle.clog_store.proofs.NoteReaches.{noted_on}
 use Rattle.clog_segments.proofs.NamesKept.{names_from, names_still}
 use Rattle.clog_store.proofs.note_log.NoteLog.go_on.Goals as goal
 
 pub returns-then-is_stopped-clause-others : goal.returns-then-is_stopped-clause-others
 returns-then-is_stopped-clause-others g c =
-    let log = c.args.self.now.log in
-    (leaves_same g.D.Disk.files g.D.Disk.changes log log refl refl refl refl refl).rest
+    (leaves_still g.D.Disk.files g.D.Disk.changes c.args.self.now.log).rest
 
 pub returns-then-is_stopped-clause-writes : goal.returns-then-is_stopped-clause-writes
 returns-then-is_stopped-clause-writes g c =
-    let log = c.args.self.now.log in
-    writes_of g.D.Disk.changes log log (grows_same g.D.Disk.changes log log refl refl refl refl)
+    (leaves_still g.D.Disk.files g.D.Disk.changes c.args.self.now.log).brings
 
 pub returns-then-is_stopped-clause-lives : goal.returns-then-is_stopped-clause-lives
 returns-then-is_stopped-clause-lives g c lives =
@@ -28,16 +25,7 @@ returns-then-is_stopped-clause-lives g c lives =
 pub invariant_of-self : goal.invariant_of-self
 invariant_of-self g c =
     let i = c.self.inside in
-    let s : NoteState g.row.D.Denot = record {
-      log = i.log;
-      base = i.base;
-      sizes = i.sizes;
-      synced = i.synced;
-      logged = i.logged.items;
-      kept = i.kept;
-      written = i.written;
-    } in
-    noted_on s c.enter.new.log c.args.id (sym c.is_stopped.ensures ∙ c.if-is_stopped.false)
+    noted_on _ c.enter.new.log c.args.id (sym c.is_stopped.ensures ∙ c.if-is_stopped.false)
     (subst (λ (x : NoteState g.row.D.Denot). x.written ≡ 0) (sym c.self.view_is) c.requires.none)
     (subst (λ (x : NoteState g.row.D.Denot). BeginsFrom x.base c.args.id x.kept)
     (sym c.self.view_is) c.requires.begins) c.self.invariant c.enter.result c.enter.ensures.enters

@@ -1,10 +1,9 @@
-use Rattle.std.proofs.Common.{◌≡◌, ◌+◌, ℕ, false, refl, sym, ◌∙◌, ap, subst}
+use Rattle.std.proofs.Common.{◌≡◌, ◌+◌, ℕ, false, sym, ◌∙◌, ap, subst}
 use Rattle.std.proofs.lemmas.Bool.{true≢false}
 use Rattle.clog_segments.specs.NoteLog.{BeginsFrom, IsNoteLog, NoteState}
 use Rattle.clog_store.specs.NoteSteps.{Enters}
 use Rattle.clog_store.proofs.NoteGoes.{goes_still}
-use Rattle.clog_store.proofs.NoteGrows.{grows_same, writes_of}
-use Rattle.clog_store.proofs.NoteLeaves.{leaves_same}
+use Rattle.clog_store.proofs.NoteLeaves.{leaves_still}
 use Rattle.clog_store.proofs.NoteReaches.{begins_next, far_now, none_written}
 use Rattle.clog_store.proofs.NoteTakes.{takes_reached}
 use Rattle.clog_store.proofs.note_log.NoteLog.reach.Goals as goal
@@ -13,13 +12,11 @@ use Rattle.clog_store.proofs.note_log.NoteLog.reach.Goals as goal
 
 pub returns-then-is_stopped-clause-others : goal.returns-then-is_stopped-clause-others
 returns-then-is_stopped-clause-others g c =
-    let log = c.args.self.now.log in
-    (leaves_same g.D.Disk.files g.D.Disk.changes log log refl refl refl refl refl).rest
+    (leaves_still g.D.Disk.files g.D.Disk.changes c.args.self.now.log).rest
 
 pub returns-then-is_stopped-clause-writes : goal.returns-then-is_stopped-clause-writes
 returns-then-is_stopped-clause-writes g c =
-    let log = c.args.self.now.log in
-    writes_of g.D.Disk.changes log log (grows_same g.D.Disk.changes log log refl refl refl refl)
+    (leaves_still g.D.Disk.files g.D.Disk.changes c.args.self.now.log).brings
 
 pub returns-then-is_stopped-clause-goes : goal.returns-then-is_stopped-clause-goes
 returns-then-is_stopped-clause-goes g c =
@@ -29,13 +26,11 @@ returns-then-is_stopped-clause-goes g c =
 
 pub returns-then-not-is_short_of-clause-others : goal.returns-then-not-is_short_of-clause-others
 returns-then-not-is_short_of-clause-others g c =
-    let log = c.args.self.now.log in
-    (leaves_same g.D.Disk.files g.D.Disk.changes log log refl refl refl refl refl).rest
+    (leaves_still g.D.Disk.files g.D.Disk.changes c.args.self.now.log).rest
 
 pub returns-then-not-is_short_of-clause-writes : goal.returns-then-not-is_short_of-clause-writes
 returns-then-not-is_short_of-clause-writes g c =
-    let log = c.args.self.now.log in
-    writes_of g.D.Disk.changes log log (grows_same g.D.Disk.changes log log refl refl refl refl)
+    (leaves_still g.D.Disk.files g.D.Disk.changes c.args.self.now.log).brings
 
 pub returns-then-not-is_short_of-clause-goes : goal.returns-then-not-is_short_of-clause-goes
 returns-then-not-is_short_of-clause-goes g c =

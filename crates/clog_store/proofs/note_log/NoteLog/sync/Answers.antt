@@ -1,10 +1,10 @@
-use Rattle.std.proofs.Common.{◌≡◌, List, drop, take, refl, sym, subst}
+use Rattle.std.proofs.Common.{◌≡◌, List, drop, take, sym, subst}
 use Rattle.path_core.specs.declared.note.EntryNote.{EntryNote}
 use Rattle.path_core.specs.Keeper.{IsParted}
 use Rattle.clog_segments.specs.NoteLog.{BeginsFrom}
 use Rattle.clog_segments.proofs.Lived.{lives_still}
-use Rattle.clog_store.proofs.NoteGrows.{grows_of, grows_same, writes_of}
-use Rattle.clog_store.proofs.NoteLeaves.{leaves_same}
+use Rattle.clog_store.proofs.NoteGrows.{grows_of}
+use Rattle.clog_store.proofs.NoteLeaves.{leaves_still}
 use Rattle.clog_store.proofs.NoteSynced.{may_run}
 use Rattle.clog_segments.proofs.NamesKept.{names_still}
 use Rattle.clog_store.proofs.note_log.NoteLog.sync.Goals as goal
@@ -47,33 +47,27 @@ log_run-outcome-requires-clause-may g c =
 
 pub returns-then-is_stopped-clause-writes : goal.returns-then-is_stopped-clause-writes
 returns-then-is_stopped-clause-writes g c =
-    let log = c.args.self.now.log in
-    writes_of g.D.Disk.changes log log (grows_same g.D.Disk.changes log log refl refl refl refl)
+    (leaves_still g.D.Disk.files g.D.Disk.changes c.args.self.now.log).brings
 
 pub returns-then-is_stopped-clause-others : goal.returns-then-is_stopped-clause-others
 returns-then-is_stopped-clause-others g c =
-    let log = c.args.self.now.log in
-    (leaves_same g.D.Disk.files g.D.Disk.changes log log refl refl refl refl refl).rest
+    (leaves_still g.D.Disk.files g.D.Disk.changes c.args.self.now.log).rest
 
 pub returns-in_err-others-clause-others : goal.returns-in_err-others-clause-others
 returns-in_err-others-clause-others g c =
-    let log = c.args.self.now.log in
-    (leaves_same g.D.Disk.files g.D.Disk.changes log log refl refl refl refl refl).rest
+    (leaves_still g.D.Disk.files g.D.Disk.changes c.args.self.now.log).rest
 
 pub returns-then-not-may_begin-clause-others : goal.returns-then-not-may_begin-clause-others
 returns-then-not-may_begin-clause-others g c =
-    let log = c.args.self.now.log in
-    (leaves_same g.D.Disk.files g.D.Disk.changes log log refl refl refl refl refl).rest
+    (leaves_still g.D.Disk.files g.D.Disk.changes c.args.self.now.log).rest
 
 pub returns-then-not-may_begin-clause-writes : goal.returns-then-not-may_begin-clause-writes
 returns-then-not-may_begin-clause-writes g c =
-    let log = c.args.self.now.log in
-    writes_of g.D.Disk.changes log log (grows_same g.D.Disk.changes log log refl refl refl refl)
+    (leaves_still g.D.Disk.files g.D.Disk.changes c.args.self.now.log).brings
 
 pub returns-in_err-others-clause-writes : goal.returns-in_err-others-clause-writes
 returns-in_err-others-clause-writes g c =
-    let log = c.args.self.now.log in
-    writes_of g.D.Disk.changes log log (grows_same g.D.Disk.changes log log refl refl refl refl)
+    (leaves_still g.D.Disk.files g.D.Disk.changes c.args.self.now.log).brings
 
 -- ---- while the disk has not failed
 

@@ -6,19 +6,13 @@ use Rattle.clog_due.specs.Counting.{IsAllCounted}
 use Rattle.clog_due.specs.Dropping.{ArePlaced, HasEntry}
 use Rattle.clog_segments.specs.StoreState.{StoreState}
 use Rattle.clog_due.proofs.NotePlaced.{logged_placed}
+use Rattle.clog_store.proofs.States.{state_of}
 use Rattle.clog_store.proofs.store.Store.due_counted.Goals as goal
 
 pub returns-clause-due : goal.returns-clause-due
 returns-clause-due g c h beside =
     let i = c.self.inside in
-    let s : StoreState g.row.D.Denot = record {
-      notes = i.notes;
-      archives = i.archives;
-      first = i.first.value;
-      files = i.files.items;
-      dropped = i.dropped.items;
-      archived = i.archived.items;
-    } in
+    let s = state_of c.self.view_is in
     let counted = c.in_ok-counted.counted in
     let own : s ≡ c.args.self.now = c.self.view_is ∙ c.count_all.ensures.same in
     let all = c.in_ok-counted.ensures.counted in

@@ -11,20 +11,14 @@ use Rattle.clog_store.proofs.OrderSyncs.{goes_for_none, settled_same}
 use Rattle.clog_store.proofs.StoreFolds.{folder_failed, folder_with}
 use Rattle.clog_store.proofs.StoreKept.{store_on}
 use Rattle.clog_segments.proofs.NamesKept.{names_on}
+use Rattle.clog_store.proofs.States.{state_of}
 use Rattle.clog_store.proofs.store.Store.go_behind.Goals as goal
 
 pub go_behind-outcome-requires-clause-due : goal.go_behind-outcome-requires-clause-due
 go_behind-outcome-requires-clause-due g c =
     let D = g.D.Disk in
     let i = c.self.inside in
-    let s : StoreState g.row.D.Denot = record {
-      notes = i.notes;
-      archives = i.archives;
-      first = i.first.value;
-      files = i.files.items;
-      dropped = i.dropped.items;
-      archived = i.archived.items;
-    } in
+    let s = state_of c.self.view_is in
     let h = holding_of D.files D.changes D.moment D.faults g.row.D.coded.code s in
     let has : HasLog i.notes h = record {
       base_is = refl;
@@ -45,14 +39,7 @@ pub invariant_of-self : goal.invariant_of-self
 invariant_of-self g c =
     let D = g.D.Disk in
     let i = c.self.inside in
-    let s : StoreState g.row.D.Denot = record {
-      notes = i.notes;
-      archives = i.archives;
-      first = i.first.value;
-      files = i.files.items;
-      dropped = i.dropped.items;
-      archived = i.archived.items;
-    } in
+    let s = state_of c.self.view_is in
     let is = c.go_behind-outcome.ensures in
     let n = c.go_behind-outcome.new.self in
     let told = c.tell.ensures in
@@ -71,7 +58,8 @@ invariant_of-self g c =
           ∙ sym (append-nil s.notes.logged)) (λ m among. absurd (nothing_there m among)))
           (λ stopped _. folder_failed D.files D.changes D.moment D.faults D.read_at D.lasted_at
           g.row.D.coded.code g.met.D.Disk.tells_both s n c.self.invariant.1 is.writes is.others
-          told.sound told.reads told.stands runs (ap (λ (x : NoteState g.row.D.Denot). x.base) is.same)
+          told.sound told.reads told.stands runs (ap (λ (x : NoteState g.row.D.Denot). x.base)
+          is.same)
           (ap (λ (x : NoteState g.row.D.Denot). x.logged) is.same))
           (settled_same s.notes n s.files (ap (λ (x : NoteState g.row.D.Denot). x.sizes) is.same)
           (ap (λ (x : NoteState g.row.D.Denot). x.logged) is.same)

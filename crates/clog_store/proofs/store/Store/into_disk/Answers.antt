@@ -16,6 +16,7 @@ use Rattle.clog_segments.specs.StoreState.{
   StoreState,
 }
 use Rattle.clog_store.proofs.OpensSince.{opens_since}
+use Rattle.clog_store.proofs.States.{state_of}
 use Rattle.clog_store.proofs.StoreImages.{most_of, tables_of}
 use Rattle.clog_store.proofs.StoreKept.{all_stay_of, left_of, rows_last}
 use Rattle.clog_store.proofs.store.Store.into_disk.Goals as goal
@@ -97,14 +98,7 @@ returns-clause-most g c =
     let D = g.D.Disk in
     let d = c.into_disk.result in
     let kept = c.self.invariant.1 in
-    let i : StoreState g.row.D.Denot = record {
-      notes = c.self.inside.notes;
-      archives = c.self.inside.archives;
-      first = c.self.inside.first.value;
-      files = c.self.inside.files.items;
-      dropped = c.self.inside.dropped.items;
-      archived = c.self.inside.archived.items;
-    } in
+    let i = state_of c.self.view_is in
     let its_disk : d ≡ i.notes.log.disk =
     c.into_disk.ensures.disk ∙ ap (λ (l : State g.row.D.Denot). l.disk) c.into_log.ensures.log in
     subst (λ (x : StoreState g.row.D.Denot). D.lasted_at d x.notes.log.opened
@@ -120,14 +114,7 @@ returns-clause-tables g c =
     let D = g.D.Disk in
     let d = c.into_disk.result in
     let kept = c.self.invariant.1 in
-    let i : StoreState g.row.D.Denot = record {
-      notes = c.self.inside.notes;
-      archives = c.self.inside.archives;
-      first = c.self.inside.first.value;
-      files = c.self.inside.files.items;
-      dropped = c.self.inside.dropped.items;
-      archived = c.self.inside.archived.items;
-    } in
+    let i = state_of c.self.view_is in
     let its_disk : d ≡ i.notes.log.disk =
     c.into_disk.ensures.disk ∙ ap (λ (l : State g.row.D.Denot). l.disk) c.into_log.ensures.log in
     subst (λ (x : StoreState g.row.D.Denot). D.lasted_at d x.notes.log.opened
@@ -143,14 +130,7 @@ returns-clause-opens g c =
     let D = g.D.Disk in
     let d = c.into_disk.result in
     let kept = c.self.invariant.1 in
-    let i : StoreState g.row.D.Denot = record {
-      notes = c.self.inside.notes;
-      archives = c.self.inside.archives;
-      first = c.self.inside.first.value;
-      files = c.self.inside.files.items;
-      dropped = c.self.inside.dropped.items;
-      archived = c.self.inside.archived.items;
-    } in
+    let i = state_of c.self.view_is in
     let its_disk : d ≡ i.notes.log.disk =
     c.into_disk.ensures.disk ∙ ap (λ (l : State g.row.D.Denot). l.disk) c.into_log.ensures.log in
     let shown = λ (lasted : D.lasted_at d i.notes.log.opened).

@@ -22,7 +22,9 @@ use Rattle.clog_segments.specs.StoreState.{IsStore, StoreState, deeds_by}
 use Rattle.clog_due.proofs.HeldSegments.{counted_gone}
 use Rattle.clog_segments.proofs.Lived.{lives_still}
 use Rattle.clog_store.proofs.NoteTakes.{passed_id}
+use Rattle.clog_store.proofs.States.{state_of}
 use Rattle.clog_store.proofs.StoreLetGo.{all_covered, droppable, let_go_with, none_let_go}
+use Rattle.clog_store.proofs.StoreSeen.{lists_same}
 use Rattle.clog_segments.proofs.NamesKept.{names_on}
 use Rattle.clog_store.proofs.store.Store.let_go.Goals as goal
 
@@ -30,14 +32,7 @@ pub discard-outcome-requires-clause-droppable : goal.discard-outcome-requires-cl
 discard-outcome-requires-clause-droppable g c =
     let D = g.D.Disk in
     let i = c.self.inside in
-    let s : StoreState g.row.D.Denot = record {
-      notes = i.notes;
-      archives = i.archives;
-      first = i.first.value;
-      files = i.files.items;
-      dropped = i.dropped.items;
-      archived = i.archived.items;
-    } in
+    let s = state_of c.self.view_is in
     let os = c.args.due.now in
     let runs = subst (λ (x : StoreState g.row.D.Denot). x.notes.log.is_stopped ≡ false)
     (sym c.self.view_is) c.requires.runs in
@@ -54,14 +49,7 @@ pub discard-outcome-requires-clause-covered : goal.discard-outcome-requires-clau
 discard-outcome-requires-clause-covered g c =
     let D = g.D.Disk in
     let i = c.self.inside in
-    let s : StoreState g.row.D.Denot = record {
-      notes = i.notes;
-      archives = i.archives;
-      first = i.first.value;
-      files = i.files.items;
-      dropped = i.dropped.items;
-      archived = i.archived.items;
-    } in
+    let s = state_of c.self.view_is in
     let os = c.args.due.now in
     let runs = subst (λ (x : StoreState g.row.D.Denot). x.notes.log.is_stopped ≡ false)
     (sym c.self.view_is) c.requires.runs in
@@ -78,14 +66,7 @@ pub invariant_of-self-2 : goal.invariant_of-self-2
 invariant_of-self-2 g c =
     let D = g.D.Disk in
     let i = c.self.inside in
-    let s : StoreState g.row.D.Denot = record {
-      notes = i.notes;
-      archives = i.archives;
-      first = i.first.value;
-      files = i.files.items;
-      dropped = i.dropped.items;
-      archived = i.archived.items;
-    } in
+    let s = state_of c.self.view_is in
     let os = c.args.due.now in
     let runs = subst (λ (x : StoreState g.row.D.Denot). x.notes.log.is_stopped ≡ false)
     (sym c.self.view_is) c.requires.runs in
@@ -125,14 +106,7 @@ pub returns-clause-goes : goal.returns-clause-goes
 returns-clause-goes g c =
     let D = g.D.Disk in
     let i = c.self.inside in
-    let s : StoreState g.row.D.Denot = record {
-      notes = i.notes;
-      archives = i.archives;
-      first = i.first.value;
-      files = i.files.items;
-      dropped = i.dropped.items;
-      archived = i.archived.items;
-    } in
+    let s = state_of c.self.view_is in
     let os = c.args.due.now in
     let runs = subst (λ (x : StoreState g.row.D.Denot). x.notes.log.is_stopped ≡ false)
     (sym c.self.view_is) c.requires.runs in
@@ -171,38 +145,18 @@ pub invariant_of-self : goal.invariant_of-self
 invariant_of-self g c =
     let D = g.D.Disk in
     let i = c.self.inside in
-    let s : StoreState g.row.D.Denot = record {
-      notes = i.notes;
-      archives = i.archives;
-      first = i.first.value;
-      files = i.files.items;
-      dropped = i.dropped.items;
-      archived = i.archived.items;
-    } in (
+    let room = c.make_room.ensures in (
       c.self.invariant.0,
-      subst (λ (l : List ℕ). IsStore D.files D.changes D.moment D.faults D.read_at D.lasted_at
-          (record s { dropped = l; archived = c.make_room.new.b.items }))
-          (sym c.make_room.ensures.a)
-          (subst (λ (l : List ℕ). IsStore D.files D.changes D.moment D.faults D.read_at
-          D.lasted_at (record s { archived = l })) (sym c.make_room.ensures.b)
-          c.self.invariant.1),
+      subst (IsStore D.files D.changes D.moment D.faults D.read_at D.lasted_at)
+          (sym (lists_same (state_of c.self.view_is) room.a room.b)) c.self.invariant.1,
       c.self.invariant.2,
-      subst (λ (l : List ℕ). IsCountedIn i.notes.logged i.files.items l i.counted)
-          (sym c.make_room.ensures.a) c.self.invariant.3,
+      subst (λ (l : List ℕ). IsCountedIn i.notes.logged i.files.items l i.counted) (sym room.a)
+          c.self.invariant.3,
     )
 
 pub returns-in_err-make_room-clause-goes : goal.returns-in_err-make_room-clause-goes
 returns-in_err-make_room-clause-goes g c =
-    let D = g.D.Disk in
-    let i = c.self.inside in
-    let s : StoreState g.row.D.Denot = record {
-      notes = i.notes;
-      archives = i.archives;
-      first = i.first.value;
-      files = i.files.items;
-      dropped = i.dropped.items;
-      archived = i.archived.items;
-    } in
+    let s = state_of c.self.view_is in
     subst (λ (x : StoreState g.row.D.Denot). HasLetGo x (record s {
       dropped = c.make_room.new.a.items;
       archived = c.make_room.new.b.items;

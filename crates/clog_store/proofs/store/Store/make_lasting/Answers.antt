@@ -1,35 +1,20 @@
-use Rattle.std.proofs.Common.{true, ◌≡◌, ℕ, refl, sym, ◌∙◌, ap₂, subst}
+use Rattle.std.proofs.Common.{refl, sym, subst}
 use Rattle.std.specs.Prelude.{OnErr, OnOk}
-use Rattle.path_core.specs.Keeper.{HasKeeperCause, MaySync, SyncRefused, Syncs}
-use Rattle.clog_segments.specs.Life.{AllLasts}
-use Rattle.clog_segments.specs.StoreState.{StoreState, holding_of, told_as}
-use Rattle.clog_store.specs.StoreTakes.{GoesOnTaking}
+use Rattle.path_core.specs.Keeper.{MaySync, SyncRefused, Syncs}
+use Rattle.clog_segments.specs.StoreState.{StoreState, holding_of}
 use Rattle.clog_store.proofs.OrderSyncs.{counted_synced, synced_goes, synced_settled}
 use Rattle.clog_store.proofs.StoreFolds.{failed_synced, folder_synced}
-use Rattle.clog_store.proofs.StoreKept.{
-  cause_told,
-  quiet_call,
-  refused_told,
-  rose_of,
-  store_on,
-  syncs_told,
-}
+use Rattle.clog_store.proofs.StoreKept.{refused_told, store_on, syncs_told}
 use Rattle.clog_store.proofs.StorePuts.{all_last, on_told}
+use Rattle.clog_store.proofs.StoreSeen.{cause_seen, quiet_seen, stays_seen, takes_seen, told_is}
 use Rattle.clog_segments.proofs.NamesKept.{names_on}
+use Rattle.clog_store.proofs.States.{state_of}
 use Rattle.clog_store.proofs.store.Store.make_lasting.Goals as goal
 
 pub sync-outcome-requires : goal.sync-outcome-requires
 sync-outcome-requires g c =
     let D = g.D.Disk in
-    let i = c.self.inside in
-    let s : StoreState g.row.D.Denot = record {
-      notes = i.notes;
-      archives = i.archives;
-      first = i.first.value;
-      files = i.files.items;
-      dropped = i.dropped.items;
-      archived = i.archived.items;
-    } in
+    let s = state_of c.self.view_is in
     record {
       holding = holding_of D.files D.changes D.moment D.faults g.row.D.coded.code s;
       has = record {
@@ -47,175 +32,105 @@ sync-outcome-requires g c =
 pub invariant_of-self : goal.invariant_of-self
 invariant_of-self g c =
     let D = g.D.Disk in
-    let i = c.self.inside in
-    let s : StoreState g.row.D.Denot = record {
-      notes = i.notes;
-      archives = i.archives;
-      first = i.first.value;
-      files = i.files.items;
-      dropped = i.dropped.items;
-      archived = i.archived.items;
-    } in
-    let is = c.sync-outcome.ensures in
+    let code = g.row.D.coded.code in
+    let s = state_of c.self.view_is in
+    let kept = c.self.invariant.1 in
     let n = c.sync-outcome.new.self in
+    let r = c.sync-outcome.result in
+    let is = c.sync-outcome.ensures in
     let told = c.fault_count.ensures in
+    let upto = c.args.upto.0 in
+    let pending = c.args.pending.now.items in
+    let left = c.sync-outcome.new.pending.items in
     let may = subst (λ (x : StoreState g.row.D.Denot). MaySync
-    (holding_of D.files D.changes D.moment D.faults g.row.D.coded.code x) c.args.upto.0
-    c.args.pending.now.items) (sym c.self.view_is) c.requires in (
+    (holding_of D.files D.changes D.moment D.faults code x) upto pending) (sym c.self.view_is)
+    c.requires in
+    let goes = synced_goes D.files D.changes D.moment D.faults code s n kept.order.settled upto
+    pending left may r is.syncs is.refused (D.files s.notes.log.disk) (D.files n.log.disk)
+    is.others in (
       c.self.invariant.0,
-      store_on D.files D.changes D.moment D.faults D.read_at D.lasted_at s n
-          c.self.invariant.1 is.opened is.first is.later is.writes is.stays
-          c.sync-outcome.result is.cause is.stops told.sound
-          (folder_synced D.files D.changes D.moment D.faults D.read_at D.lasted_at
-          g.row.D.coded.code g.met.D.Disk.tells_both s n c.self.invariant.1 is.writes is.others
-          told.sound told.reads told.stands c.args.upto.0 c.args.pending.now.items
-          c.sync-outcome.new.pending.items may c.sync-outcome.result is.cause is.stops is.syncs
-          is.refused)
-          (failed_synced D.files D.changes D.moment D.faults D.read_at D.lasted_at
-          g.row.D.coded.code g.met.D.Disk.tells_both s n c.self.invariant.1 is.writes is.others
-          told.sound told.reads told.stands c.args.upto.0 c.args.pending.now.items
-          c.sync-outcome.new.pending.items may c.sync-outcome.result is.stops is.refused)
-          (synced_settled D.files D.changes D.moment D.faults g.row.D.coded.code s n
-          c.self.invariant.1.order.settled c.args.upto.0 c.args.pending.now.items
-          c.sync-outcome.new.pending.items may c.sync-outcome.result is.syncs is.refused)
-          (synced_goes D.files D.changes D.moment D.faults g.row.D.coded.code s n
-          c.self.invariant.1.order.settled c.args.upto.0 c.args.pending.now.items
-          c.sync-outcome.new.pending.items may c.sync-outcome.result is.syncs is.refused
-          (D.files s.notes.log.disk) (D.files n.log.disk) is.others),
+      store_on D.files D.changes D.moment D.faults D.read_at D.lasted_at s n kept is.opened
+          is.first is.later is.writes is.stays r is.cause is.stops told.sound
+          (folder_synced D.files D.changes D.moment D.faults D.read_at D.lasted_at code
+          g.met.D.Disk.tells_both s n kept is.writes is.others told.sound told.reads told.stands
+          upto pending left may r is.cause is.stops is.syncs is.refused)
+          (failed_synced D.files D.changes D.moment D.faults D.read_at D.lasted_at code
+          g.met.D.Disk.tells_both s n kept is.writes is.others told.sound told.reads told.stands
+          upto pending left may r is.stops is.refused)
+          (synced_settled D.files D.changes D.moment D.faults code s n kept.order.settled upto
+          pending left may r is.syncs is.refused)
+          goes,
       names_on D.files D.leaves s.first s.notes.log n.log c.self.invariant.2 is.names_last,
-      counted_synced s n i.counted
-          (synced_goes D.files D.changes D.moment D.faults g.row.D.coded.code s n
-          c.self.invariant.1.order.settled c.args.upto.0 c.args.pending.now.items
-          c.sync-outcome.new.pending.items may c.sync-outcome.result is.syncs is.refused
-          (D.files s.notes.log.disk) (D.files n.log.disk) is.others)
-          c.self.invariant.3,
+      counted_synced s n c.self.inside.counted goes c.self.invariant.3,
     )
 
 pub returns-clause-syncs : goal.returns-clause-syncs
 returns-clause-syncs g c =
     let D = g.D.Disk in
-    let i = c.self.inside in
-    let s : StoreState g.row.D.Denot = record {
-      notes = i.notes;
-      archives = i.archives;
-      first = i.first.value;
-      files = i.files.items;
-      dropped = i.dropped.items;
-      archived = i.archived.items;
-    } in
-    let is = c.sync-outcome.ensures in
+    let code = g.row.D.coded.code in
+    let s = state_of c.self.view_is in
     let n = c.sync-outcome.new.self in
-    let says = c.told.ensures ∙ ap₂ (λ (a b : ℕ). told_as a b c.sync-outcome.result)
-    c.self.invariant.0 c.fault_count.ensures.count in
-    subst (λ (x : StoreState g.row.D.Denot). OnOk c.told.result (Syncs
-    (holding_of D.files D.changes D.moment D.faults g.row.D.coded.code x)
-    (holding_of D.files D.changes D.moment D.faults g.row.D.coded.code (record s { notes = n }))
-    c.args.upto.0 c.args.pending.now.items c.sync-outcome.new.pending.items)) c.self.view_is
-    (syncs_told D.files D.changes D.moment D.faults g.row.D.coded.code s n c.args.upto.0
-    c.args.pending.now.items c.sync-outcome.new.pending.items c.sync-outcome.result is.cause
-    is.stops c.told.result says is.syncs)
+    let r = c.sync-outcome.result in
+    let is = c.sync-outcome.ensures in
+    let held = holding_of D.files D.changes D.moment D.faults code in
+    let upto = c.args.upto.0 in
+    let pending = c.args.pending.now.items in
+    let left = c.sync-outcome.new.pending.items in
+    subst (λ (x : StoreState g.row.D.Denot). OnOk c.told.result
+    (Syncs (held x) (held (record s { notes = n })) upto pending left)) c.self.view_is
+    (syncs_told D.files D.changes D.moment D.faults code s n upto pending left r is.cause is.stops
+    c.told.result (told_is r c.told.ensures c.self.invariant.0 c.fault_count.ensures.count)
+    is.syncs)
 
 pub returns-clause-refused : goal.returns-clause-refused
 returns-clause-refused g c =
     let D = g.D.Disk in
-    let i = c.self.inside in
-    let s : StoreState g.row.D.Denot = record {
-      notes = i.notes;
-      archives = i.archives;
-      first = i.first.value;
-      files = i.files.items;
-      dropped = i.dropped.items;
-      archived = i.archived.items;
-    } in
-    let is = c.sync-outcome.ensures in
+    let code = g.row.D.coded.code in
+    let s = state_of c.self.view_is in
     let n = c.sync-outcome.new.self in
-    let says = c.told.ensures ∙ ap₂ (λ (a b : ℕ). told_as a b c.sync-outcome.result)
-    c.self.invariant.0 c.fault_count.ensures.count in
-    subst (λ (x : StoreState g.row.D.Denot). OnErr c.told.result (SyncRefused
-    (holding_of D.files D.changes D.moment D.faults g.row.D.coded.code x)
-    (holding_of D.files D.changes D.moment D.faults g.row.D.coded.code (record s { notes = n }))
-    c.args.upto.0 c.args.pending.now.items c.sync-outcome.new.pending.items)) c.self.view_is
-    (refused_told D.files D.changes D.moment D.faults g.row.D.coded.code s n c.args.upto.0
-    c.args.pending.now.items c.sync-outcome.new.pending.items c.sync-outcome.result is.cause
-    is.stops c.told.result says is.refused)
+    let r = c.sync-outcome.result in
+    let is = c.sync-outcome.ensures in
+    let held = holding_of D.files D.changes D.moment D.faults code in
+    let upto = c.args.upto.0 in
+    let pending = c.args.pending.now.items in
+    let left = c.sync-outcome.new.pending.items in
+    subst (λ (x : StoreState g.row.D.Denot). OnErr c.told.result
+    (SyncRefused (held x) (held (record s { notes = n })) upto pending left)) c.self.view_is
+    (refused_told D.files D.changes D.moment D.faults code s n upto pending left r is.cause is.stops
+    c.told.result (told_is r c.told.ensures c.self.invariant.0 c.fault_count.ensures.count)
+    is.refused)
 
 pub returns-clause-cause : goal.returns-clause-cause
 returns-clause-cause g c =
     let D = g.D.Disk in
-    let i = c.self.inside in
-    let s : StoreState g.row.D.Denot = record {
-      notes = i.notes;
-      archives = i.archives;
-      first = i.first.value;
-      files = i.files.items;
-      dropped = i.dropped.items;
-      archived = i.archived.items;
-    } in
     let is = c.sync-outcome.ensures in
-    let n = c.sync-outcome.new.self in
-    let says = c.told.ensures ∙ ap₂ (λ (a b : ℕ). told_as a b c.sync-outcome.result)
-    c.self.invariant.0 c.fault_count.ensures.count in
-    let risen = rose_of D.files D.changes D.moment D.faults D.read_at D.lasted_at s n
-    c.self.invariant.1 c.sync-outcome.result is.cause is.stops in
-    subst (λ (x : StoreState g.row.D.Denot). HasKeeperCause
-    (holding_of D.files D.changes D.moment D.faults g.row.D.coded.code x)
-    (holding_of D.files D.changes D.moment D.faults g.row.D.coded.code (record s { notes = n }))
-    c.told.result) c.self.view_is
-    (cause_told D.files D.changes D.moment D.faults g.row.D.coded.code s n c.args.upto.0
-    c.args.pending.now.items c.sync-outcome.new.pending.items c.sync-outcome.result is.cause
-    is.stops c.told.result says risen c.fault_count.ensures.fits)
+    let told = c.fault_count.ensures in
+    cause_seen c.self.view_is c.sync-outcome.new.self D.faults c.sync-outcome.result is.cause
+    is.stops D.files D.changes
+    D.moment D.read_at D.lasted_at g.row.D.coded.code c.self.invariant.1 told.fits
+    (told_is c.sync-outcome.result c.told.ensures c.self.invariant.0 told.count)
 
 pub returns-clause-quiet : goal.returns-clause-quiet
 returns-clause-quiet g c still =
-    let D = g.D.Disk in
-    let i = c.self.inside in
     let is = c.sync-outcome.ensures in
-    let n = c.sync-outcome.new.self in
-    subst (λ (x : StoreState g.row.D.Denot). D.faults n.log.disk ≡ D.faults x.notes.log.disk)
-    c.self.view_is
-    (quiet_call i.notes.log.is_stopped n.log.is_stopped (D.faults i.notes.log.disk)
-    (D.faults n.log.disk) c.sync-outcome.result is.cause is.stops still)
+    (quiet_seen c.self.view_is c.sync-outcome.new.self g.D.Disk.faults c.sync-outcome.result
+    is.cause is.stops still).1
 
 pub returns-clause-lasts : goal.returns-clause-lasts
 returns-clause-lasts g c =
     let D = g.D.Disk in
-    let i = c.self.inside in
-    let is = c.sync-outcome.ensures in
     let n = c.sync-outcome.new.self in
-    let says = c.told.ensures ∙ ap₂ (λ (a b : ℕ). told_as a b c.sync-outcome.result)
-    c.self.invariant.0 c.fault_count.ensures.count in
-    on_told (AllLasts D.files D.leaves n.log) (D.faults i.first.value) (D.faults n.log.disk)
-    c.sync-outcome.result c.told.result says
-    (all_last D.files D.leaves n.log c.sync-outcome.result is.stops is.all
-    c.fault_count.ensures.here)
+    let r = c.sync-outcome.result in
+    let is = c.sync-outcome.ensures in
+    let told = c.fault_count.ensures in
+    on_told _ (D.faults c.self.inside.first.value) (D.faults n.log.disk) r c.told.result
+    (told_is r c.told.ensures c.self.invariant.0 told.count)
+    (all_last D.files D.leaves n.log r is.stops is.all told.here)
 
 pub returns-clause-takes : goal.returns-clause-takes
 returns-clause-takes g c =
-    let i = c.self.inside in
-    let s : StoreState g.row.D.Denot = record {
-      notes = i.notes;
-      archives = i.archives;
-      first = i.first.value;
-      files = i.files.items;
-      dropped = i.dropped.items;
-      archived = i.archived.items;
-    } in
-    let n = c.sync-outcome.new.self in
-    subst (λ (x : StoreState g.row.D.Denot). GoesOnTaking x (record s { notes = n }))
-    c.self.view_is (λ takes still. c.sync-outcome.ensures.takes s.dropped takes still)
+    takes_seen c.self.view_is c.sync-outcome.new.self c.sync-outcome.ensures.takes
 
 pub returns-clause-stays : goal.returns-clause-stays
-returns-clause-stays g c was =
-    let i = c.self.inside in
-    let s : StoreState g.row.D.Denot = record {
-      notes = i.notes;
-      archives = i.archives;
-      first = i.first.value;
-      files = i.files.items;
-      dropped = i.dropped.items;
-      archived = i.archived.items;
-    } in
-    (λ j. record s {
-      notes = c.sync-outcome.ensures.stays (subst (λ (x : StoreState g.row.D.Denot).
-          x.notes.log.is_stopped ≡ true) (sym c.self.view_is) was) j;
-    }) ∙ c.self.view_is
+returns-clause-stays g c =
+    stays_seen c.self.view_is c.sync-outcome.new.self c.sync-outcome.ensures.stays

@@ -4,20 +4,14 @@ use Rattle.path_core.specs.Keeper.{HasKeeperCause}
 use Rattle.clog_segments.specs.declared.written.StoreFault.TheVariants.{Stopped}
 use Rattle.clog_segments.specs.StoreState.{StoreState, holding_of, told_as}
 use Rattle.clog_store.proofs.StoreKept.{keeper_cause}
+use Rattle.clog_store.proofs.States.{state_of}
 use Rattle.clog_store.proofs.store.Store.make_room_for_file.Goals as goal
 
 pub returns-then-is_stopped-clause-cause : goal.returns-then-is_stopped-clause-cause
 returns-then-is_stopped-clause-cause g c =
     let D = g.D.Disk in
     let i = c.self.inside in
-    let s : StoreState g.row.D.Denot = record {
-      notes = i.notes;
-      archives = i.archives;
-      first = i.first.value;
-      files = i.files.items;
-      dropped = i.dropped.items;
-      archived = i.archived.items;
-    } in
+    let s = state_of c.self.view_is in
     let h = holding_of D.files D.changes D.moment D.faults g.row.D.coded.code s in
     let stopped : i.notes.log.is_stopped ≡ true =
     sym c.is_stopped.ensures ∙ c.if-is_stopped.true in

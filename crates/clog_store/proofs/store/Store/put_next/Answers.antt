@@ -1,41 +1,20 @@
-use Rattle.std.proofs.Common.{
-  rules,
-  ◌≡◌,
-  ◌<◌,
-  ◌^◌,
-  ◌++◌,
-  ◌∷◌,
-  [],
-  List,
-  take,
-  false,
-  sym,
-  ◌∙◌,
-  ap,
-  subst,
-}
-use Rattle.clog_base.specs.Positions.{position_of}
-use Rattle.path_core.specs.Keeper.{MayPublish, PutFile}
-use Rattle.clog_due.specs.Counting.{IsCountedIn}
-use Rattle.clog_segments.specs.NoteLog.{IsNoteLog, NoteState}
-use Rattle.clog_store.specs.NoteSteps.{GoesOn}
+use Rattle.std.proofs.Common.{rules, ◌≡◌, ◌<◌, ◌^◌, ◌++◌, ◌∷◌, ◌∙◌, [], List, take, sym, ap, subst}
 use Rattle.std.specs.Prelude.{Err}
+use Rattle.clog_base.specs.Positions.{position_of}
+use Rattle.path_core.specs.Keeper.{PutFile}
+use Rattle.clog_due.specs.Counting.{IsCountedIn}
+use Rattle.clog_segments.specs.NoteLog.{NoteState}
+use Rattle.clog_store.specs.NoteSteps.{GoesOn}
 use Rattle.clog_segments.specs.Publishes.{IsNextSequence}
-use Rattle.clog_segments.specs.Stepped.{IsQuiet, StopsBy}
-use Rattle.clog_segments.specs.StoreState.{
-  HasReached,
-  IsStore,
-  StoreState,
-  holding_of,
-  put_of,
-}
-use Rattle.clog_store.specs.StoreTakes.{GoesOnTaking, TakesNext}
+use Rattle.clog_segments.specs.Stepped.{StopsBy}
+use Rattle.clog_segments.specs.StoreState.{HasReached, IsStore, StoreState, holding_of, put_of}
+use Rattle.clog_store.specs.StoreTakes.{TakesNext}
 use Rattle.clog_segments.proofs.AtMost.{ends_up_to}
-use Rattle.clog_store.proofs.NoteTakes.{passed_id, takes_moved}
 use Rattle.clog_due.proofs.HeldSegments.{counted_put}
 use Rattle.clog_store.proofs.NoteGoes.{goes_still}
 use Rattle.clog_store.proofs.NotePasses.{passes_same}
 use Rattle.clog_store.proofs.OrderPuts.{order_put}
+use Rattle.clog_store.proofs.States.{state_of}
 use Rattle.clog_store.proofs.StoreFiles.{
   folder_put,
   free_table,
@@ -44,14 +23,8 @@ use Rattle.clog_store.proofs.StoreFiles.{
   numbered,
   stands_table,
 }
-use Rattle.clog_store.proofs.StorePuts.{
-  as_passed,
-  at_memory,
-  put_failed,
-  quiet_on,
-  store_put,
-  store_still,
-}
+use Rattle.clog_store.proofs.StorePuts.{as_passed, at_memory, put_failed, store_put, store_still}
+use Rattle.clog_store.proofs.StoreSeen.{asked_inside, quiet_seen, takes_passed}
 use Rattle.clog_segments.proofs.NamesKept.{names_on}
 use Rattle.clog_store.proofs.store.Store.put_next.Goals as goal
 
@@ -67,30 +40,14 @@ returns-in_err-reserve-clause-goes g c =
 pub put-requires-clause-numbered : goal.put-requires-clause-numbered
 put-requires-clause-numbered g c =
     let D = g.D.Disk in
-    let i = c.self.inside in
-    let s : StoreState g.row.D.Denot = record {
-      notes = i.notes;
-      archives = i.archives;
-      first = i.first.value;
-      files = i.files.items;
-      dropped = i.dropped.items;
-      archived = i.archived.items;
-    } in
-    let may = subst (λ (x : StoreState g.row.D.Denot). MayPublish
-    (holding_of D.files D.changes D.moment D.faults g.row.D.coded.code x)
-    (put_of c.args.file c.args.cells.now)) (sym c.self.view_is) c.requires.may in
-    let noted = subst (λ (x : StoreState g.row.D.Denot). IsNoteLog x.notes) (sym c.self.view_is)
-    c.requires.noted in
-    let runs = subst (λ (x : StoreState g.row.D.Denot). x.notes.log.is_stopped ≡ false)
-    (sym c.self.view_is) c.requires.runs in
-    let next = subst (λ (x : StoreState g.row.D.Denot). IsNextSequence
-    (D.files x.notes.log.disk) c.args.file.table c.args.sequence) (sym c.self.view_is)
-    c.requires.next in
-    let far = subst (λ (x : StoreState g.row.D.Denot). HasReached x.notes c.args.file.upper.0)
-    (sym c.self.view_is) c.requires.far in
-    numbered s.notes (holding_of D.files D.changes D.moment D.faults g.row.D.coded.code s) noted
-    (has_log D.files D.changes D.moment D.faults g.row.D.coded.code s) c.args.file
-    c.args.cells.now may c.args.sequence next.starts next.fits
+    let s = state_of c.self.view_is in
+    let code = g.row.D.coded.code in
+    let asked = asked_inside D.files D.changes D.moment D.faults code c.self.view_is c.args.file
+    c.args.cells.now c.args.sequence
+    (c.requires.may, c.requires.runs, c.requires.noted, c.requires.next, c.requires.far) in
+    numbered s.notes (holding_of D.files D.changes D.moment D.faults code s) asked.2
+    (has_log D.files D.changes D.moment D.faults code s) c.args.file
+    c.args.cells.now asked.0 c.args.sequence asked.3.starts asked.3.fits
     (let low : c.args.file.lower.0 < 2 ^ 64 = search rules in low)
     (let low : c.args.file.upper.0 < 2 ^ 64 = search rules in low)
 
@@ -112,55 +69,25 @@ put-requires-clause-next g c =
 pub put-requires-clause-may : goal.put-requires-clause-may
 put-requires-clause-may g c =
     let D = g.D.Disk in
-    let i = c.self.inside in
-    let s : StoreState g.row.D.Denot = record {
-      notes = i.notes;
-      archives = i.archives;
-      first = i.first.value;
-      files = i.files.items;
-      dropped = i.dropped.items;
-      archived = i.archived.items;
-    } in
-    let may = subst (λ (x : StoreState g.row.D.Denot). MayPublish
-    (holding_of D.files D.changes D.moment D.faults g.row.D.coded.code x)
-    (put_of c.args.file c.args.cells.now)) (sym c.self.view_is) c.requires.may in
-    let noted = subst (λ (x : StoreState g.row.D.Denot). IsNoteLog x.notes) (sym c.self.view_is)
-    c.requires.noted in
-    let runs = subst (λ (x : StoreState g.row.D.Denot). x.notes.log.is_stopped ≡ false)
-    (sym c.self.view_is) c.requires.runs in
-    let next = subst (λ (x : StoreState g.row.D.Denot). IsNextSequence
-    (D.files x.notes.log.disk) c.args.file.table c.args.sequence) (sym c.self.view_is)
-    c.requires.next in
-    let far = subst (λ (x : StoreState g.row.D.Denot). HasReached x.notes c.args.file.upper.0)
-    (sym c.self.view_is) c.requires.far in
-    may_be_put D.files D.changes D.moment D.faults D.read_at D.lasted_at g.row.D.coded.code
-    g.met.D.Disk.tells_both s c.self.invariant.1 runs noted c.args.file c.args.cells.now may
-    c.args.sequence next far
+    let s = state_of c.self.view_is in
+    let code = g.row.D.coded.code in
+    let asked = asked_inside D.files D.changes D.moment D.faults code c.self.view_is c.args.file
+    c.args.cells.now c.args.sequence
+    (c.requires.may, c.requires.runs, c.requires.noted, c.requires.next, c.requires.far) in
+    may_be_put D.files D.changes D.moment D.faults D.read_at D.lasted_at code
+    g.met.D.Disk.tells_both s c.self.invariant.1 asked.1 asked.2 c.args.file c.args.cells.now
+    asked.0
+    c.args.sequence asked.3 asked.4
 
 pub invariant_of-self-in-Err : goal.invariant_of-self-in-Err
 invariant_of-self-in-Err g c =
     let D = g.D.Disk in
     let i = c.self.inside in
-    let s : StoreState g.row.D.Denot = record {
-      notes = i.notes;
-      archives = i.archives;
-      first = i.first.value;
-      files = i.files.items;
-      dropped = i.dropped.items;
-      archived = i.archived.items;
-    } in
-    let may = subst (λ (x : StoreState g.row.D.Denot). MayPublish
-    (holding_of D.files D.changes D.moment D.faults g.row.D.coded.code x)
-    (put_of c.args.file c.args.cells.now)) (sym c.self.view_is) c.requires.may in
-    let noted = subst (λ (x : StoreState g.row.D.Denot). IsNoteLog x.notes) (sym c.self.view_is)
-    c.requires.noted in
-    let runs = subst (λ (x : StoreState g.row.D.Denot). x.notes.log.is_stopped ≡ false)
-    (sym c.self.view_is) c.requires.runs in
-    let next = subst (λ (x : StoreState g.row.D.Denot). IsNextSequence
-    (D.files x.notes.log.disk) c.args.file.table c.args.sequence) (sym c.self.view_is)
-    c.requires.next in
-    let far = subst (λ (x : StoreState g.row.D.Denot). HasReached x.notes c.args.file.upper.0)
-    (sym c.self.view_is) c.requires.far in
+    let s = state_of c.self.view_is in
+    let code = g.row.D.coded.code in
+    let asked = asked_inside D.files D.changes D.moment D.faults code c.self.view_is c.args.file
+    c.args.cells.now c.args.sequence
+    (c.requires.may, c.requires.runs, c.requires.noted, c.requires.next, c.requires.far) in
     let is = c.put.ensures in
     let n = c.put.new.self in (
       c.self.invariant.0,
@@ -178,11 +105,11 @@ invariant_of-self-in-Err g c =
           c.self.invariant.1 c.put.result is.passes is.goes.later is.cause is.stops
           (λ was. sym is.log ∙ is.stays was) _ is.others is.told
           (free_table D.files D.changes D.moment D.faults D.read_at D.lasted_at
-          g.row.D.coded.code g.met.D.Disk.tells_both s c.self.invariant.1 runs noted c.args.file
-          c.args.cells.now may c.args.sequence next far)
+          code g.met.D.Disk.tells_both s c.self.invariant.1 asked.1 asked.2 c.args.file
+          c.args.cells.now asked.0 c.args.sequence asked.3 asked.4)
           (stands_table D.files D.changes D.moment D.faults D.read_at D.lasted_at
-          g.row.D.coded.code g.met.D.Disk.tells_both s c.self.invariant.1 runs noted c.args.file
-          c.args.cells.now may c.args.sequence next far n.log c.in-Err.ensures.maybe)))),
+          code g.met.D.Disk.tells_both s c.self.invariant.1 asked.1 asked.2 c.args.file
+          c.args.cells.now asked.0 c.args.sequence asked.3 asked.4 n.log c.in-Err.ensures.maybe)))),
       names_on D.files D.leaves s.first s.notes.log n.log c.self.invariant.2 is.goes.names,
       subst (λ (fs : List PutFile). IsCountedIn n.logged fs i.dropped.items i.counted)
           (sym c.reserve.ensures.items)
@@ -195,26 +122,11 @@ pub invariant_of-self-in-Ok : goal.invariant_of-self-in-Ok
 invariant_of-self-in-Ok g c =
     let D = g.D.Disk in
     let i = c.self.inside in
-    let s : StoreState g.row.D.Denot = record {
-      notes = i.notes;
-      archives = i.archives;
-      first = i.first.value;
-      files = i.files.items;
-      dropped = i.dropped.items;
-      archived = i.archived.items;
-    } in
-    let may = subst (λ (x : StoreState g.row.D.Denot). MayPublish
-    (holding_of D.files D.changes D.moment D.faults g.row.D.coded.code x)
-    (put_of c.args.file c.args.cells.now)) (sym c.self.view_is) c.requires.may in
-    let noted = subst (λ (x : StoreState g.row.D.Denot). IsNoteLog x.notes) (sym c.self.view_is)
-    c.requires.noted in
-    let runs = subst (λ (x : StoreState g.row.D.Denot). x.notes.log.is_stopped ≡ false)
-    (sym c.self.view_is) c.requires.runs in
-    let next = subst (λ (x : StoreState g.row.D.Denot). IsNextSequence
-    (D.files x.notes.log.disk) c.args.file.table c.args.sequence) (sym c.self.view_is)
-    c.requires.next in
-    let far = subst (λ (x : StoreState g.row.D.Denot). HasReached x.notes c.args.file.upper.0)
-    (sym c.self.view_is) c.requires.far in
+    let s = state_of c.self.view_is in
+    let code = g.row.D.coded.code in
+    let asked = asked_inside D.files D.changes D.moment D.faults code c.self.view_is c.args.file
+    c.args.cells.now c.args.sequence
+    (c.requires.may, c.requires.runs, c.requires.noted, c.requires.next, c.requires.far) in
     let is = c.put.ensures in
     let n = c.put.new.self in
     let come = c.in-Ok.ensures.comes in
@@ -233,15 +145,16 @@ invariant_of-self-in-Ok g c =
           D.read_at D.lasted_at (record s { notes = x; files = s.files ++ put ∷ [] })) (sym is.log)
           (store_put D.files D.changes D.moment D.faults D.read_at D.lasted_at s n.log
           c.self.invariant.1 c.put.result is.passes is.goes.later is.cause is.stops
-          (λ was. sym is.log ∙ is.stays was) runs put _ come.bytes come.adds
+          (λ was. sym is.log ∙ is.stays was) asked.1 put _ come.bytes come.adds
           c.in-Ok.ensures.stops
           (λ still. folder_put D.files D.changes D.moment D.faults D.read_at D.lasted_at
-          g.row.D.coded.code g.met.D.Disk.tells_both s c.self.invariant.1 runs noted c.args.file
-          c.args.cells.now may c.args.sequence next far n.log come is.told
+          code g.met.D.Disk.tells_both s c.self.invariant.1 asked.1 asked.2 c.args.file
+          c.args.cells.now asked.0 c.args.sequence asked.3 asked.4 n.log come is.told
           (as_passed s.notes n.log c.put.result is.passes))
-          (order_put D.files D.changes D.moment D.faults D.read_at D.lasted_at g.row.D.coded.code s
-          c.self.invariant.1 runs noted c.args.file c.args.cells.now may c.args.sequence next.starts
-          next.fits n.log (passes_same s.notes n.log c.put.result is.passes)
+          (order_put D.files D.changes D.moment D.faults D.read_at D.lasted_at code s
+          c.self.invariant.1 asked.1 asked.2 c.args.file c.args.cells.now asked.0 c.args.sequence
+          asked.3.starts
+          asked.3.fits n.log (passes_same s.notes n.log c.put.result is.passes)
           (as_passed s.notes n.log c.put.result is.passes) come.bytes come.spelled come.adds))),
       names_on D.files D.leaves s.first s.notes.log n.log c.self.invariant.2 is.goes.names,
       subst (λ (fs : List PutFile). IsCountedIn n.logged fs i.dropped.items i.counted) (sym all)
@@ -253,53 +166,23 @@ invariant_of-self-in-Ok g c =
 
 pub returns-in-Ok-clause-quiet : goal.returns-in-Ok-clause-quiet
 returns-in-Ok-clause-quiet g c =
-    let D = g.D.Disk in
-    let log = c.self.inside.notes.log in
     let is = c.put.ensures in
-    let n = c.put.new.self in
-    subst (λ (x : StoreState g.row.D.Denot). IsQuiet D.faults x.notes.log n.log) c.self.view_is
-    (quiet_on D.faults log n.log c.put.result is.cause is.stops)
+    quiet_seen c.self.view_is c.put.new.self g.D.Disk.faults c.put.result is.cause is.stops
 
 pub returns-in-Err-clause-quiet : goal.returns-in-Err-clause-quiet
 returns-in-Err-clause-quiet g c =
-    let D = g.D.Disk in
-    let log = c.self.inside.notes.log in
     let is = c.put.ensures in
-    let n = c.put.new.self in
-    subst (λ (x : StoreState g.row.D.Denot). IsQuiet D.faults x.notes.log n.log) c.self.view_is
-    (quiet_on D.faults log n.log c.put.result is.cause is.stops)
+    quiet_seen c.self.view_is c.put.new.self g.D.Disk.faults c.put.result is.cause is.stops
 
 pub returns-in-Ok-clause-takes : goal.returns-in-Ok-clause-takes
 returns-in-Ok-clause-takes g c =
-    let i = c.self.inside in
-    let s : StoreState g.row.D.Denot = record {
-      notes = i.notes;
-      archives = i.archives;
-      first = i.first.value;
-      files = i.files.items;
-      dropped = i.dropped.items;
-      archived = i.archived.items;
-    } in
-    let n = c.put.new.self in
-    subst (λ (x : StoreState g.row.D.Denot). GoesOnTaking x (record s { notes = n }))
-    c.self.view_is (λ takes still. takes_moved s.notes n s.dropped c.put.ensures.log
-    (passed_id s.notes.log n.log c.put.result c.put.ensures.passes) takes)
+    let is = c.put.ensures in
+    takes_passed c.self.view_is c.put.new.self c.put.result is.passes is.log
 
 pub returns-in-Err-clause-takes : goal.returns-in-Err-clause-takes
 returns-in-Err-clause-takes g c =
-    let i = c.self.inside in
-    let s : StoreState g.row.D.Denot = record {
-      notes = i.notes;
-      archives = i.archives;
-      first = i.first.value;
-      files = i.files.items;
-      dropped = i.dropped.items;
-      archived = i.archived.items;
-    } in
-    let n = c.put.new.self in
-    subst (λ (x : StoreState g.row.D.Denot). GoesOnTaking x (record s { notes = n }))
-    c.self.view_is (λ takes still. takes_moved s.notes n s.dropped c.put.ensures.log
-    (passed_id s.notes.log n.log c.put.result c.put.ensures.passes) takes)
+    let is = c.put.ensures in
+    takes_passed c.self.view_is c.put.new.self c.put.result is.passes is.log
 
 pub returns-in_err-reserve-clause-takes : goal.returns-in_err-reserve-clause-takes
 returns-in_err-reserve-clause-takes g c takes still =

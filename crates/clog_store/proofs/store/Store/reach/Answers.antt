@@ -1,27 +1,24 @@
-use Rattle.std.proofs.Common.{◌≡◌, true, ℕ, sym, ◌∙◌, ap₂, subst}
-use Rattle.path_core.specs.Keeper.{HasKeeperCause}
+use Rattle.std.proofs.Common.{sym, subst}
 use Rattle.clog_due.specs.Counting.{IsCountedIn}
 use Rattle.clog_segments.specs.NoteLog.{NoteState}
-use Rattle.clog_segments.specs.Stepped.{IsQuiet}
-use Rattle.clog_segments.specs.StoreState.{HasMoved, StoreState, holding_of, told_as}
-use Rattle.clog_store.specs.StoreTakes.{GoesOnTaking}
-use Rattle.clog_store.proofs.StoreKept.{keeper_cause, rose_of}
-use Rattle.clog_store.proofs.StorePuts.{on_told, quiet_on, store_gone_on}
 use Rattle.clog_segments.proofs.NamesKept.{names_on}
+use Rattle.clog_store.proofs.StorePuts.{on_told, store_gone_on}
+use Rattle.clog_store.proofs.StoreSeen.{
+  cause_seen,
+  moved_seen,
+  quiet_seen,
+  stays_seen,
+  takes_seen,
+  told_is,
+}
+use Rattle.clog_store.proofs.States.{state_of}
 use Rattle.clog_store.proofs.store.Store.reach.Goals as goal
 
 pub invariant_of-self : goal.invariant_of-self
 invariant_of-self g c =
     let D = g.D.Disk in
     let i = c.self.inside in
-    let s : StoreState g.row.D.Denot = record {
-      notes = i.notes;
-      archives = i.archives;
-      first = i.first.value;
-      files = i.files.items;
-      dropped = i.dropped.items;
-      archived = i.archived.items;
-    } in
+    let s = state_of c.self.view_is in
     let is = c.reach-outcome.ensures in
     let n = c.reach-outcome.new.self in
     let told = c.fault_count.ensures in (
@@ -38,103 +35,37 @@ invariant_of-self g c =
 
 pub returns-clause-moved : goal.returns-clause-moved
 returns-clause-moved g c =
-    let D = g.D.Disk in
-    let i = c.self.inside in
-    let s : StoreState g.row.D.Denot = record {
-      notes = i.notes;
-      archives = i.archives;
-      first = i.first.value;
-      files = i.files.items;
-      dropped = i.dropped.items;
-      archived = i.archived.items;
-    } in
-    let n = c.reach-outcome.new.self in
-    subst (λ (x : StoreState g.row.D.Denot). HasMoved x (record s { notes = n })) c.self.view_is
-    (λ i. record s { notes = c.reach-outcome.ensures.same i })
+    moved_seen c.self.view_is c.reach-outcome.new.self c.reach-outcome.ensures.same
 
 pub returns-clause-far : goal.returns-clause-far
 returns-clause-far g c =
-    let D = g.D.Disk in
-    let i = c.self.inside in
-    let s : StoreState g.row.D.Denot = record {
-      notes = i.notes;
-      archives = i.archives;
-      first = i.first.value;
-      files = i.files.items;
-      dropped = i.dropped.items;
-      archived = i.archived.items;
-    } in
-    let says = c.told.ensures ∙ ap₂ (λ (a b : ℕ). told_as a b c.reach-outcome.result)
-    c.self.invariant.0 c.fault_count.ensures.count in
-    on_told _ (D.faults s.first) (D.faults c.reach-outcome.new.self.log.disk)
-    c.reach-outcome.result c.told.result
-    says c.reach-outcome.ensures.far
+    let faults = g.D.Disk.faults in
+    let n = c.reach-outcome.new.self in
+    on_told _ (faults c.self.inside.first.value) (faults n.log.disk) c.reach-outcome.result
+    c.told.result (told_is c.reach-outcome.result c.told.ensures c.self.invariant.0
+    c.fault_count.ensures.count)
+    c.reach-outcome.ensures.far
 
 pub returns-clause-cause : goal.returns-clause-cause
 returns-clause-cause g c =
     let D = g.D.Disk in
-    let i = c.self.inside in
-    let s : StoreState g.row.D.Denot = record {
-      notes = i.notes;
-      archives = i.archives;
-      first = i.first.value;
-      files = i.files.items;
-      dropped = i.dropped.items;
-      archived = i.archived.items;
-    } in
     let is = c.reach-outcome.ensures in
-    let n = c.reach-outcome.new.self in
-    let now : StoreState g.row.D.Denot = record s { notes = n } in
-    let says = c.told.ensures ∙ ap₂ (λ (a b : ℕ). told_as a b c.reach-outcome.result)
-    c.self.invariant.0 c.fault_count.ensures.count in
-    let risen = rose_of D.files D.changes D.moment D.faults D.read_at D.lasted_at s n
-    c.self.invariant.1 c.reach-outcome.result is.cause is.stops in
-    subst (λ (x : StoreState g.row.D.Denot). HasKeeperCause
-    (holding_of D.files D.changes D.moment D.faults g.row.D.coded.code x)
-    (holding_of D.files D.changes D.moment D.faults g.row.D.coded.code now) c.told.result)
-    c.self.view_is
-    (subst (HasKeeperCause (holding_of D.files D.changes D.moment D.faults g.row.D.coded.code s)
-    (holding_of D.files D.changes D.moment D.faults g.row.D.coded.code now)) (sym says)
-    (keeper_cause (holding_of D.files D.changes D.moment D.faults g.row.D.coded.code s)
-    (holding_of D.files D.changes D.moment D.faults g.row.D.coded.code now)
-    c.reach-outcome.result is.cause is.stops risen c.fault_count.ensures.fits))
+    let told = c.fault_count.ensures in
+    cause_seen c.self.view_is c.reach-outcome.new.self D.faults c.reach-outcome.result is.cause
+    is.stops D.files D.changes D.moment
+    D.read_at D.lasted_at g.row.D.coded.code c.self.invariant.1 told.fits
+    (told_is c.reach-outcome.result c.told.ensures c.self.invariant.0 told.count)
 
 pub returns-clause-quiet : goal.returns-clause-quiet
 returns-clause-quiet g c =
-    let D = g.D.Disk in
-    let log = c.self.inside.notes.log in
     let is = c.reach-outcome.ensures in
-    let n = c.reach-outcome.new.self in
-    subst (λ (x : StoreState g.row.D.Denot). IsQuiet D.faults x.notes.log n.log) c.self.view_is
-    (quiet_on D.faults log n.log c.reach-outcome.result is.cause is.stops)
+    quiet_seen c.self.view_is c.reach-outcome.new.self g.D.Disk.faults c.reach-outcome.result
+    is.cause is.stops
 
 pub returns-clause-takes : goal.returns-clause-takes
 returns-clause-takes g c =
-    let i = c.self.inside in
-    let s : StoreState g.row.D.Denot = record {
-      notes = i.notes;
-      archives = i.archives;
-      first = i.first.value;
-      files = i.files.items;
-      dropped = i.dropped.items;
-      archived = i.archived.items;
-    } in
-    let n = c.reach-outcome.new.self in
-    subst (λ (x : StoreState g.row.D.Denot). GoesOnTaking x (record s { notes = n }))
-    c.self.view_is (λ takes still. c.reach-outcome.ensures.takes s.dropped takes still)
+    takes_seen c.self.view_is c.reach-outcome.new.self c.reach-outcome.ensures.takes
 
 pub returns-clause-stays : goal.returns-clause-stays
-returns-clause-stays g c was =
-    let i = c.self.inside in
-    let s : StoreState g.row.D.Denot = record {
-      notes = i.notes;
-      archives = i.archives;
-      first = i.first.value;
-      files = i.files.items;
-      dropped = i.dropped.items;
-      archived = i.archived.items;
-    } in
-    (λ j. record s {
-      notes = c.reach-outcome.ensures.stays (subst (λ (x : StoreState g.row.D.Denot).
-          x.notes.log.is_stopped ≡ true) (sym c.self.view_is) was) j;
-    }) ∙ c.self.view_is
+returns-clause-stays g c =
+    stays_seen c.self.view_is c.reach-outcome.new.self c.reach-outcome.ensures.stays
