@@ -109,10 +109,10 @@ returns-clause-gathered g c = let H = c.requires.reads in let T = c.take_read.en
     let after = c.give_read.new.member.seat.me.0.hands in
     let G = c.requires.gathered H.read H.reads in
     subst (λ (o : Option Bool). IfSome o
-    (λ k. HoldsGathered c.args.table c.gather-done.new.cells.items k after))
+    (λ k. HoldsGathered c.args.table c.gather-done.new.cells k after))
     (sym c.told_some.ensures)
     (box_gathered c.args.table H.read.seen c.trim.new.notes
     (λ (n : EntryNote). nat_lt c.args.above.0 n.end.0)
-    c.gather-done.new.cells.items c.args.some c.found_some-some.result after c.gather-done.result
+    c.gather-done.new.cells c.args.some c.found_some-some.result after c.gather-done.result
     (λ q has. seen_is H S.is trimmed q has) (c.gather-done.ensures H.read.seen G.0) G.1
     (c.found_some-some.ensures ∙ ap (λ k. k || c.args.some) c.ends_above.ensures))
