@@ -1,23 +1,14 @@
 -- What a call's outcome leads to.
 use Rattle.std.proofs.Common.{◌≡◌, ℕ, List, Option, ◌∙◌}
-use Rattle.std.specs.Prelude.{Result, Ok, Err, IfOk, OnOk, OnErr}
+use Rattle.std.specs.Prelude.{Result, Ok, Err, IfOk, OnOk}
 use Rattle.clog_disk.specs.Files.{Files}
 use Rattle.clog_disk.specs.Images.{Elapses, IsImage, LeavesOnly}
 use Rattle.clog_disk.proofs.Moments.{started, goes_on}
-
-pub ok_then : {A E P Q : Type 0} (result : Result A E) → OnOk result P → (P → Q) → OnOk result Q
-ok_then (Ok x) p h = h p
-ok_then (Err e) p h = tt
 
 pub ok_both : {A E P Q R : Type 0} (result : Result A E) → OnOk result P → OnOk result Q
     → (P → Q → R) → OnOk result R
 ok_both (Ok x) p q h = h p q
 ok_both (Err e) p q h = tt
-
-pub err_then : {A E P Q : Type 0} (result : Result A E) → OnErr result P → (P → Q)
-    → OnErr result Q
-err_then (Ok x) p h = tt
-err_then (Err e) p h = h p
 
 -- one call, before and after which each image has P
 pub one_call : {D : Type 0} (moment : D → ℕ) (since : D → ℕ → Files → Type 0)

@@ -1,5 +1,4 @@
-//! The pending notes that a sync writes: those up to a key, in the order of the log; and how notes
-//! go.
+//! The pending notes that a sync writes: those up to a key, in the order of the log.
 ghost use Rattle.std.specs.Prelude.{
   ◌≡◌,
   ◌++◌,

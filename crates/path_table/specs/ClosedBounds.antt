@@ -12,7 +12,7 @@ use Rattle.std.specs.Prelude.{
   List,
   slice_index,
 }
-use Rattle.path_core.specs.declared.state.Bound.TheVariants.{Final}
+use Rattle.path_core.specs.declared.state.Bound.TheVariants.{Final, Live}
 use Rattle.path_core.specs.declared.state.PathState.{PathState}
 use Rattle.path_core.specs.History.{bound_before}
 use Rattle.path_core.specs.Parts.{HasPassedBarrier, memtable_of, table_of}
@@ -27,11 +27,13 @@ key_below words t (suc m) = slice_index words (131144 + 16 * m + t) % 2 ^ 62
 abbrev pub last_key : List ℕ → ℕ → ℕ
 last_key words t = key_below words t (slice_index words (8 + 4 * t))
 
--- What a closed table tells of its tables' bounds in the state where its run ends. Each is that of
--- the memtable below the newest one, key 0 where there is none; it is a final bound, and the
--- memtable's barrier is passed, so no write comes there any more.
+-- What a closed table tells of its tables' bounds in the state where its run ends: the last final
+-- ones. Each is that of the memtable below the newest one, which is live yet, and key 0 where there
+-- is none. That memtable's barrier is passed; its table file may be wanting, as after a flush that
+-- was refused memory.
 pub record TellsBounds (x : PathState) (bounds : TableBounds) : Type 0 where
   pub keys : (t : ℕ) → t < 16 → slice_index bounds.keys t ≡ bound_before x t (table_of x t).newest
+  pub live : (t : ℕ) → (memtable_of x t (table_of x t).newest).bound ≡ Live
   pub final : (t m : ℕ) → t < 16 → (table_of x t).newest ≡ suc m
       → (memtable_of x t m).bound ≡ Final (record { 0 = slice_index bounds.keys t })
   pub passed : (t m : ℕ) → (table_of x t).newest ≡ suc m → HasPassedBarrier x t m

@@ -9,7 +9,8 @@ use clog_base::{Key, Table};
 use path_rule::Slot;
 use std::alloc::Global;
 
-/// Of each table the bound of the memtable below its newest one, key 0 where there is none.
+/// Of each table its last final bound: that of the memtable below its newest one, key 0 where there
+/// is none.
 #[derive(Clone, Copy, Debug, PartialEq, Eq)]
 pub struct TableBounds {
     /// By the table's number.

@@ -3,7 +3,6 @@
 use Rattle.std.proofs.Common.{
   ◌≡◌,
   ℕ,
-  zero,
   suc,
   ◌-◌,
   ◌<◌,
@@ -86,6 +85,7 @@ module _ (x : PathState) (L : IsLawfulPath x) (free : NobodyFlushes x) where
       → TellsBounds x bounds
   bounds_final bounds keys = record {
     keys = keys;
+    live = λ t. (L.switches.tables t).bounds_rise.newest_is_live;
     final = λ t m inside more. let P = passed t m more in
         final_is (memtable_of x t m).bound
         ((L.switches.tables t).barrier_means_final m P.group P.issued)

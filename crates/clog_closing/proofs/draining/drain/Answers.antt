@@ -1,6 +1,6 @@
 use Rattle.std.proofs.Common.{Result, subst}
 use Rattle.path_core.specs.declared.keeper.KeeperFault.{KeeperFault}
-use Rattle.clog_segments.proofs.Outcomes.{ok_then}
+use Rattle.clog_base.proofs.Follows.{on_ok}
 use Rattle.clog_closing.specs.Drained.{HasGoneOn, held_in}
 use Rattle.clog_closing.proofs.Going.{gone_on}
 use Rattle.clog_closing.proofs.GoodDrops.{drains as drains_by}
@@ -9,7 +9,7 @@ use Rattle.clog_closing.proofs.draining.drain.Goals as goal
 pub returns-in-Ok-clause-drains : goal.returns-in-Ok-clause-drains
 returns-in-Ok-clause-drains g c =
     let held = held_in g.D.Disk g.row.D.coded.code in
-    ok_then c.drop_all.result c.drop_all.ensures.drops (λ drops.
+    on_ok c.drop_all.result _ _ c.drop_all.ensures.drops (λ drops.
     drains_by (held c.args.store.now) (held c.flush_each.new.store) (held c.drop_all.new.store)
     c.args.memtables.now drops.0 c.requires.may c.requires.holds_some c.requires.good
     c.in-Ok.ensures.flushes drops.1)

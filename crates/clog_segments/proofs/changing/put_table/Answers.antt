@@ -1,11 +1,12 @@
 use Rattle.std.proofs.Common.{◌∙◌, ℕ, List, Some, sym, ap, subst}
+use Rattle.clog_base.proofs.Follows.{on_err}
 use Rattle.clog_spec.specs.Names.{table_name_of}
 use Rattle.clog_base.specs.declared.cell.Table.{Table}
 use Rattle.clog_segments.specs.Beside.{ImagesButOne, StayButOne}
 use Rattle.clog_segments.specs.Resting.{ShowsBehind}
 use Rattle.clog_segments.proofs.Beside.{comes_show, rests_with, rests_for_file}
 use Rattle.clog_segments.proofs.Kept.{rests_show, rests_on}
-use Rattle.clog_segments.proofs.Outcomes.{ok_both, err_then, one_call}
+use Rattle.clog_segments.proofs.Outcomes.{ok_both, one_call}
 use Rattle.clog_segments.proofs.Stays.{stay_put, turned}
 use Rattle.clog_segments.proofs.NamesKept.{each_by}
 use Rattle.clog_segments.proofs.changing.put_table.Goals as goal
@@ -27,7 +28,7 @@ returns-clause-refused g c other r past id old kept rests =
     let D = g.D.Disk in
     let before = c.args.disk.now in
     let after = c.publish.new.self in
-    err_then c.publish.result (c.publish.ensures.refused other) (λ unchanged.
+    on_err c.publish.result _ _ (c.publish.ensures.refused other) (λ unchanged.
     rests_on (D.files before) (D.files after) (D.leaves before) (D.leaves after) r past id old kept
     unchanged.files unchanged.images.fewer rests)
 

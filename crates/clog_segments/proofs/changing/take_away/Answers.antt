@@ -1,9 +1,10 @@
 use Rattle.std.proofs.Common.{ℕ, List, None, subst}
+use Rattle.clog_base.proofs.Follows.{on_err}
 use Rattle.clog_segments.specs.Beside.{ImagesButOne, StayButOne}
 use Rattle.clog_segments.specs.Resting.{ShowsBehind}
 use Rattle.clog_segments.proofs.Beside.{goes_show, rests_without, rests_for_none}
 use Rattle.clog_segments.proofs.Kept.{rests_show, rests_on}
-use Rattle.clog_segments.proofs.Outcomes.{ok_both, err_then, one_call}
+use Rattle.clog_segments.proofs.Outcomes.{ok_both, one_call}
 use Rattle.clog_segments.proofs.Stays.{stay_put, turned}
 use Rattle.clog_segments.proofs.NamesKept.{each_by}
 use Rattle.clog_segments.proofs.changing.take_away.Goals as goal
@@ -22,7 +23,7 @@ returns-clause-refused g c other r past id old kept rests =
     let D = g.D.Disk in
     let before = c.args.disk.now in
     let after = c.remove.new.self in
-    err_then c.remove.result (c.remove.ensures.refused other) (λ unchanged.
+    on_err c.remove.result _ _ (c.remove.ensures.refused other) (λ unchanged.
     rests_on (D.files before) (D.files after) (D.leaves before) (D.leaves after) r past id old kept
     unchanged.files unchanged.images.fewer rests)
 

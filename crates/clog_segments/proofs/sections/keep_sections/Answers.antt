@@ -1,4 +1,5 @@
 use Rattle.std.proofs.Common.{◌+◌, ◌++◌, List, ℕ, length, subst}
+use Rattle.clog_base.proofs.Follows.{on_err, on_ok}
 use Rattle.clog_spec.specs.Names.{segment_name_of}
 use Rattle.clog_disk.specs.Images.{Tears}
 use Rattle.clog_segments.specs.AtMost.{IsUpToAt}
@@ -6,7 +7,7 @@ use Rattle.clog_segments.specs.Beside.{ImagesButOne, StayButOne}
 use Rattle.clog_segments.specs.Resting.{ShowsBehind}
 use Rattle.clog_segments.proofs.AddsOnly.{adds_by, tables_but_segment, torn_up_to}
 use Rattle.clog_segments.proofs.Kept.{rests_show, rests_show_more, rests_on, torn_show, rests_kept}
-use Rattle.clog_segments.proofs.Outcomes.{ok_then, err_then, one_call}
+use Rattle.clog_segments.proofs.Outcomes.{one_call}
 use Rattle.clog_segments.proofs.Stays.{stay_appended}
 use Rattle.clog_segments.proofs.NamesKept.{torn_elsewhere}
 use Rattle.clog_segments.proofs.sections.keep_sections.Goals as goal
@@ -16,7 +17,7 @@ returns-clause-kept g c r past old kept new brings rests =
     let D = g.D.Disk in
     let before = c.args.disk.now in
     let after = c.append_at.new.self in
-    ok_then c.append_at.result c.append_at.ensures.appends (λ appends.
+    on_ok c.append_at.result _ _ c.append_at.ensures.appends (λ appends.
     rests_kept (D.leaves before) (D.leaves after) r past c.args.id old kept _
     c.segment_name.ensures new c.args.bytes.now brings (D.files before) (D.files after) rests
     c.append_at.ensures.crash appends)
@@ -26,7 +27,7 @@ returns-clause-refused g c other r past at old kept rests =
     let D = g.D.Disk in
     let before = c.args.disk.now in
     let after = c.append_at.new.self in
-    err_then c.append_at.result (c.append_at.ensures.refused other) (λ unchanged.
+    on_err c.append_at.result _ _ (c.append_at.ensures.refused other) (λ unchanged.
     let now = rests_on (D.files before) (D.files after) (D.leaves before) (D.leaves after) r past
     at old kept unchanged.files unchanged.images.fewer rests in (
       now,

@@ -1,8 +1,9 @@
 use Rattle.std.proofs.Common.{ℕ, List, subst}
+use Rattle.clog_base.proofs.Follows.{on_err, on_ok}
 use Rattle.clog_disk.specs.Images.{Lasts}
 use Rattle.clog_segments.specs.Resting.{ShowsBehind}
 use Rattle.clog_segments.proofs.Kept.{rests_show, rests_on, rests_settled}
-use Rattle.clog_segments.proofs.Outcomes.{ok_then, err_then, one_call}
+use Rattle.clog_segments.proofs.Outcomes.{one_call}
 use Rattle.clog_segments.proofs.sections.settle_sections.Goals as goal
 
 pub returns-clause-lasts : goal.returns-clause-lasts
@@ -10,7 +11,7 @@ returns-clause-lasts g c r past old kept rests =
     let D = g.D.Disk in
     let before = c.args.disk.now in
     let after = c.sync.new.self in
-    ok_then c.sync.result c.sync.ensures.lasts (λ lasts.
+    on_ok c.sync.result _ _ c.sync.ensures.lasts (λ lasts.
     rests_settled (D.leaves before) (D.leaves after) r past c.args.id old kept _
     c.segment_name.ensures (D.files before) (D.files after) c.sync.ensures.same
     c.sync.ensures.crash rests lasts)
@@ -20,7 +21,7 @@ returns-clause-refused g c r past old kept rests =
     let D = g.D.Disk in
     let before = c.args.disk.now in
     let after = c.sync.new.self in
-    err_then c.sync.result c.sync.ensures.refused (λ images.
+    on_err c.sync.result _ _ c.sync.ensures.refused (λ images.
     rests_on (D.files before) (D.files after) (D.leaves before) (D.leaves after) r past c.args.id
     old kept c.sync.ensures.same images.fewer rests)
 
@@ -42,6 +43,6 @@ returns-clause-here g c =
     let D = g.D.Disk in
     let before = c.args.disk.now in
     let after = c.sync.new.self in
-    ok_then c.sync.result c.sync.ensures.lasts (λ lasts.
+    on_ok c.sync.result _ _ c.sync.ensures.lasts (λ lasts.
     subst (λ (name : List ℕ). Lasts (D.files before) (D.leaves after) name)
     c.segment_name.ensures lasts)
