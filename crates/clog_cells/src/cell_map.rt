@@ -184,12 +184,8 @@ fn insert(
     }
 }
 
-/// Merges one cell, as `CellMap::put`.
-pub(crate) fn put(
-    cells: &mut BTreeMap<CellKey, Cell>,
-    key: CellKey,
-    cell: Cell,
-) -> Result<(), (CellKey, Cell)>
+// Merges one cell, as `CellMap::put`.
+fn put(cells: &mut BTreeMap<CellKey, Cell>, key: CellKey, cell: Cell) -> Result<(), (CellKey, Cell)>
     requires { IsCellMap cells.old.entries }
     ensures merged { OnOk result
         (IsMerge (cells.old.entries ++ (key, cell) ∷ []) cells.new.entries) }

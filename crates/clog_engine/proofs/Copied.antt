@@ -15,13 +15,16 @@ use Rattle.std.proofs.Common.{
   sym,
   ◌∙◌,
   ap,
-  append_assoc,
+  subst,
 }
 use Rattle.std.specs.List.{flat_map}
 use Rattle.std.proofs.lemmas.Grind.{flat_map-append}
 use Rattle.std.proofs.lemmas.List.{append-nil, map-append, take_more}
 use Rattle.clog_base.specs.declared.cell.Cell.{Cell}
 use Rattle.clog_base.specs.declared.cell.CellKey.{CellKey}
+use Rattle.clog_cells.specs.Batches.{Adds, WerePut}
+use Rattle.clog_cells.specs.declared.batches.CellBatches.{CellBatches}
+use Rattle.clog_cells.proofs.Batched.{adds_both}
 use Rattle.clog_mutation.specs.declared.mutation.Update.{Update}
 use Rattle.clog_mutation.specs.declared.mutation.Mutation.{Mutation}
 use Rattle.clog_mutation.specs.Payload.{pair_of, cells_of}
@@ -35,24 +38,27 @@ taken {A} xs i x inside is =
     sym (take_more xs i x inside ∙ ap (λ (y : A). take i xs ++ y ∷ []) (sym is))
 
 -- one update more
-pub update_next : (old put new : Pairs) (key : List ℕ) (us : List Update) (i : ℕ) (u : Update)
-    → i < length us → u ≡ get_or us i u → put ≡ old ++ map (pair_of key) (take i us)
-    → new ≡ put ++ pair_of key u ∷ [] → new ≡ old ++ map (pair_of key) (take (i + 1) us)
-update_next old put new key us i u inside is so_far step =
-    let front = map (pair_of key) (take i us) in let last = pair_of key u ∷ [] in
-    step ∙ ap (λ (l : Pairs). l ++ last) so_far ∙ append_assoc old front last
-    ∙ ap (λ (l : Pairs). old ++ l) (sym (map-append (pair_of key) (take i us) (u ∷ []))
+pub update_next : (first put now : CellBatches) (key : List ℕ) (us : List Update) (i : ℕ)
+    (u : Update) → i < length us → u ≡ get_or us i u
+    → Adds (map (pair_of key) (take i us)) first put → Adds (pair_of key u ∷ []) put now
+    → Adds (map (pair_of key) (take (i + 1) us)) first now
+update_next first put now key us i u inside is so_far step =
+    subst (λ (l : Pairs). Adds l first now)
+    (sym (map-append (pair_of key) (take i us) (u ∷ []))
     ∙ ap (map (pair_of key)) (taken us i u inside is))
+    (adds_both first put now (map (pair_of key) (take i us)) (pair_of key u ∷ []) so_far step)
 
 -- one mutation more
-pub mutation_next : (put new : Pairs) (ms : List Mutation) (i : ℕ) (m : Mutation)
+pub mutation_next : (put now : CellBatches) (ms : List Mutation) (i : ℕ) (m : Mutation)
     (updates : List Update) → i < length ms → m ≡ get_or ms i m
-    → put ≡ flat_map cells_of (take i ms) → updates ≡ m.updates
-    → new ≡ put ++ map (pair_of m.key) updates → new ≡ flat_map cells_of (take (i + 1) ms)
-mutation_next put new ms i m updates inside is so_far lent step =
+    → WerePut (flat_map cells_of (take i ms)) put → updates ≡ m.updates
+    → Adds (map (pair_of m.key) updates) put now
+    → WerePut (flat_map cells_of (take (i + 1) ms)) now
+mutation_next put now ms i m updates inside is so_far lent step =
     let front = flat_map cells_of (take i ms) in
-    step ∙ ap (λ (l : Pairs). l ++ map (pair_of m.key) updates) so_far
-    ∙ ap (λ (us : List Update). front ++ map (pair_of m.key) us) lent
+    subst (λ (l : Pairs). WerePut l now)
+    (ap (λ (us : List Update). front ++ map (pair_of m.key) us) lent
     ∙ ap (λ (l : Pairs). front ++ l) (sym (append-nil (cells_of m)))
     ∙ sym (flat_map-append cells_of (take i ms) (m ∷ []))
-    ∙ ap (flat_map cells_of) (taken ms i m inside is)
+    ∙ ap (flat_map cells_of) (taken ms i m inside is))
+    (step front so_far)

@@ -1,12 +1,13 @@
 //! The cells that lent mutations merge to: copies of theirs, since the mutations go on to their
-//! writers. They are merged all at once.
-ghost use Rattle.std.specs.Prelude.{◌≡◌, [], ◌∷◌, ◌++◌, map, OnOk, IfOk};
+//! writers. They are merged in batches.
+ghost use Rattle.std.specs.Prelude.{◌≡◌, [], ◌∷◌, map, OnOk, IfOk};
 ghost use Rattle.std.specs.List.{flat_map};
+ghost use Rattle.clog_cells.specs.Batches.{Adds};
 ghost use Rattle.clog_cells.specs.Merge.{IsMerge};
 ghost use Rattle.clog_mutation.specs.Payload.{pair_of, cells_of};
 
 use clog_base::{Cell, CellKey, OutOfMemory, Text};
-use clog_cells::CellMap;
+use clog_cells::{CellBatches, CellMap};
 use clog_mutation::{Mutation, Update};
 use std::alloc::Global;
 
@@ -30,25 +31,24 @@ fn copy_of(alloc: Global, key: &Text, update: &Update) -> Result<(CellKey, Cell)
 // Puts a copy of what one update says behind other cells.
 fn put_copy(
     alloc: Global,
-    cells: &mut Vec<(CellKey, Cell)>,
+    cells: &mut CellBatches,
     key: &Text,
     update: &Update,
 ) -> Result<(), OutOfMemory>
-    ensures { OnOk result (cells.new.items ≡ cells.old.items ++ pair_of key.now update.now ∷ []) }
+    ensures { OnOk result (Adds (pair_of key.now update.now ∷ []) cells.old cells.new) }
 {
-    cells.push(copy_of(alloc, key, update)?)?;
-    Ok(())
+    let (key, cell) = copy_of(alloc, key, update)?;
+    cells.put(key, cell)
 }
 
 // Puts copies of what updates say.
 fn put_copies(
     alloc: Global,
-    cells: &mut Vec<(CellKey, Cell)>,
+    cells: &mut CellBatches,
     key: &Text,
     updates: &[Update],
 ) -> Result<(), OutOfMemory>
-    ensures { OnOk result (cells.new.items
-        ≡ cells.old.items ++ map (pair_of key.now) updates.now) }
+    ensures { OnOk result (Adds (map (pair_of key.now) updates.now) cells.old cells.new) }
 {
     for update in updates {
         put_copy(alloc, cells, key, update)?;
@@ -60,7 +60,7 @@ fn put_copies(
 pub(crate) fn copies_of(alloc: Global, mutations: &[Mutation]) -> Result<CellMap, OutOfMemory>
     ensures { IfOk result (λ rows. IsMerge (flat_map cells_of mutations.now) rows) }
 {
-    let mut cells = Vec::new(alloc);
+    let mut cells = CellBatches::new(alloc);
     for mutation in mutations {
         put_copies(
             alloc,
@@ -69,5 +69,5 @@ pub(crate) fn copies_of(alloc: Global, mutations: &[Mutation]) -> Result<CellMap
             mutation.updates.as_slice(),
         )?;
     }
-    CellMap::of_pairs(alloc, cells)
+    cells.into_map()
 }

@@ -1,9 +1,16 @@
+use Rattle.clog_cells.proofs.Batched.{adds_none}
 use Rattle.clog_engine.proofs.Copied.{update_next}
 use Rattle.clog_engine.proofs.copies.put_copies.Goals as goal
+
+pub loop-update-init : goal.loop-update-init
+loop-update-init c = adds_none c.args.cells.now
 
 pub loop-update-preserved : goal.loop-update-preserved
 loop-update-preserved c =
     let l = c.loop-update in
-    update_next c.args.cells.now.items l.cells.items c.put_copy.new.cells.items c.args.key.now
-    c.args.updates.now l.update-index c.update-item.result c.loop-update-test.true
-    c.update-item.is l.invariant c.in_ok-put_copy.ensures
+    update_next c.args.cells.now l.cells c.put_copy.new.cells c.args.key.now c.args.updates.now
+    l.update-index c.update-item.result c.loop-update-test.true c.update-item.is l.invariant
+    c.in_ok-put_copy.ensures
+
+pub returns : goal.returns
+returns c = ?
