@@ -5,7 +5,7 @@ ghost use Rattle.path_table.specs.Members.{IsOf};
 ghost use Rattle.write_path.specs.Tries.{Stays};
 ghost use Rattle.write_path.specs.Writes.{IsPrepared};
 
-use clog_base::{Key, Sizes};
+use clog_base::{Key, Sizes, Table};
 use clog_io::OpenGate;
 use clog_mutation::decode;
 use path_core::Keeper;
@@ -98,6 +98,7 @@ fn one_write_is_the_whole_history(rt: HostRuntime) -> Result<(), Fail> {
     assert_eq!(&rt; (start, end, tables), (Key(28), Key(60), 1));
     seats.push(seat)?;
     let (_keeper, outcome) = path.close(&rt, alloc, seats);
-    assert_eq!(&rt; outcome.end, Key(60));
+    // No memtable was switched.
+    assert_eq!(&rt; (outcome.end, outcome.bounds.of(Table(0))), (Key(60), Key(0)));
     Ok(())
 }

@@ -1,3 +1,9 @@
+use Rattle.std.proofs.Common.{List, subst, arith}
+use Rattle.std.proofs.lemmas.List.{take_all}
+use Rattle.std.specs.List.{flat_map}
+use Rattle.clog_cells.specs.Batches.{WerePut}
+use Rattle.clog_mutation.specs.declared.mutation.Mutation.{Mutation}
+use Rattle.clog_mutation.specs.Payload.{cells_of}
 use Rattle.clog_engine.proofs.Copied.{mutation_next}
 use Rattle.clog_engine.proofs.copies.copies_of.Goals as goal
 
@@ -9,4 +15,7 @@ loop-mutation-preserved c =
     l.invariant c.as_slice.ensures c.in_ok-put_copies.ensures
 
 pub returns : goal.returns
-returns c = ?
+returns c = let l = c.loop-mutation in let ms = c.args.mutations.now in
+    c.into_map.ensures (flat_map cells_of ms)
+    (subst (λ (all : List Mutation). WerePut (flat_map cells_of all) l.cells)
+    (take_all l.mutation-index ms (omega (arith, c.loop-mutation-test.false))) l.invariant)

@@ -1,3 +1,8 @@
+use Rattle.std.proofs.Common.{List, map, subst, arith}
+use Rattle.std.proofs.lemmas.List.{take_all}
+use Rattle.clog_cells.specs.Batches.{Adds}
+use Rattle.clog_mutation.specs.declared.mutation.Update.{Update}
+use Rattle.clog_mutation.specs.Payload.{pair_of}
 use Rattle.clog_cells.proofs.Batched.{adds_none}
 use Rattle.clog_engine.proofs.Copied.{update_next}
 use Rattle.clog_engine.proofs.copies.put_copies.Goals as goal
@@ -13,4 +18,7 @@ loop-update-preserved c =
     c.in_ok-put_copy.ensures
 
 pub returns : goal.returns
-returns c = ?
+returns c = let l = c.loop-update in let us = c.args.updates.now in
+    subst (λ (all : List Update).
+    Adds (map (pair_of c.args.key.now) all) c.args.cells.now l.cells)
+    (take_all l.update-index us (omega (arith, c.loop-update-test.false))) l.invariant

@@ -1,4 +1,3 @@
-use Rattle.clog_cells.proofs.Batched.{adds_none}
 use Rattle.clog_cells.proofs.batches.CellBatches.make_room.Goals as goal
 
 pub returns : goal.returns
