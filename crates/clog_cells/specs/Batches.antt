@@ -1,17 +1,18 @@
--- Which cells were put to be merged in batches.
-use Rattle.std.specs.Prelude.{◌≡◌, List, ◌++◌}
+-- Which cells were put to be merged, as far as their merge tells.
+use Rattle.std.specs.Prelude.{List, ◌++◌}
 use Rattle.clog_base.specs.declared.cell.Cell.{Cell}
 use Rattle.clog_base.specs.declared.cell.CellKey.{CellKey}
-use Rattle.clog_cells.specs.Merge.{IsMerge}
+use Rattle.clog_cells.specs.Merge.{HaveSameMembers, IsMerge}
 use Rattle.clog_cells.specs.declared.batches.CellBatches.{CellBatches}
 
--- Just these cells were put: the first of them are merged, and the others wait.
+-- These cells were put: some of them are merged, and the others wait. What they all merge to is what
+-- is answered in the end.
 pub record WerePut (cells : List (CellKey × Cell)) (b : CellBatches) : Type 0 where
-  pub front : List (CellKey × Cell)
-  pub merged : IsMerge front b.merged
-  pub parts : cells ≡ front ++ b.waiting.items
+  pub done : List (CellKey × Cell)
+  pub merged : IsMerge done b.merged
+  pub parts : HaveSameMembers cells (done ++ b.waiting.items)
 
--- Just these cells are put behind those that were.
+-- These cells are put behind those that were.
 abbrev pub Adds : List (CellKey × Cell) → CellBatches → CellBatches → Type 0
 Adds more before now =
     (cells : List (CellKey × Cell)) → WerePut cells before → WerePut (cells ++ more) now

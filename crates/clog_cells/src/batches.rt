@@ -1,5 +1,6 @@
-//! Cells that come one by one are merged in batches: they wait in a list, and a full list is merged
-//! by one sort (`CellMap::of_pairs`). So the memory of many cells of few keys is that of a batch.
+//! Cells that come one by one: the first ones wait in a list, and a full list is made a map at once
+//! (`CellMap::of_pairs`), which compares fewer keys. What comes behind a full list is put into the
+//! map, so the memory of many cells of few keys is that of one list.
 ghost use Rattle.std.specs.Prelude.{[], ◌∷◌, OnOk, IfOk, List};
 ghost use Rattle.clog_base.specs.declared.cell.Cell.{Cell};
 ghost use Rattle.clog_base.specs.declared.cell.CellKey.{CellKey};
@@ -14,7 +15,7 @@ use std::mem;
 // The greatest number of cells that wait.
 const MOST_WAITING: usize = 65_536;
 
-/// Cells that are merged in batches. After a refusal some of them are gone.
+/// Cells that are merged, the first of them all at once. After a refusal some of them are gone.
 #[derive(Drop)]
 pub struct CellBatches {
     alloc: Global,
@@ -38,13 +39,13 @@ impl CellBatches {
     fn merge_waiting(&mut self) -> Result<(), OutOfMemory>
         ensures { OnOk result (Adds [] self.old self.new) }
     {
-        let full = mem::replace(&mut self.waiting, Vec::new(self.alloc));
-        let batch = CellMap::of_pairs(self.alloc, full)?;
+        let first = mem::replace(&mut self.waiting, Vec::new(self.alloc));
+        let batch = CellMap::of_pairs(self.alloc, first)?;
         self.merged.join(batch)
     }
 
-    // Makes room for one cell more.
-    fn make_room(&mut self) -> Result<(), OutOfMemory>
+    // The same, if they are as many as may wait.
+    fn merge_if_full(&mut self) -> Result<(), OutOfMemory>
         ensures { OnOk result (Adds [] self.old self.new) }
     {
         if self.waiting.len() < MOST_WAITING {
@@ -53,12 +54,25 @@ impl CellBatches {
         self.merge_waiting()
     }
 
-    /// Puts a cell behind the others.
+    // A cell waits.
+    fn keep_waiting(&mut self, key: CellKey, cell: Cell) -> Result<(), OutOfMemory>
+        ensures { OnOk result (Adds ((key, cell) ∷ []) self.old self.new) }
+    {
+        self.merge_if_full()?;
+        self.waiting.push((key, cell))?;
+        Ok(())
+    }
+
+    /// Puts a cell.
     pub fn put(&mut self, key: CellKey, cell: Cell) -> Result<(), OutOfMemory>
         ensures { OnOk result (Adds ((key, cell) ∷ []) self.old self.new) }
     {
-        self.make_room()?;
-        self.waiting.push((key, cell))?;
+        if self.merged.len() == 0 {
+            return self.keep_waiting(key, cell);
+        }
+        let Ok(()) = self.merged.put(key, cell) else {
+            return Err(OutOfMemory);
+        };
         Ok(())
     }
 

@@ -1,8 +1,8 @@
-//! A map of many cells at once. Put in one by one, each cell would cost a descent of the tree to look
-//! its key up, and one more to put it, each by some twenty comparisons of keys in a map of a thousand
-//! cells. A sort compares less, and least where the pairs come in runs that are in order, which it
-//! merges. Of sorted pairs the standard map is built from its leaves up: it takes them to a list of
-//! its own and sorts that by key, which compares each pair with the next one.
+//! A map of many cells at once. Put in one by one, each cell would cost a descent of the tree to
+//! look its key up, and one more to put it, each by ten to twenty comparisons of keys in a map of a
+//! thousand cells. A sort compares less, and least where the pairs come in runs that are in order,
+//! which it merges. Of sorted pairs the standard map is built from its leaves up: it takes them to
+//! a list of its own and sorts that by key, which compares each pair with the next one.
 ghost use Rattle.std.specs.Prelude.{◌≡◌, IfOk, OnOk};
 ghost use Rattle.std.specs.List.Sorted.{IsPermutation, IsSorted};
 ghost use Rattle.clog_cells.specs.Merge.{IsCellMap, IsMerge, pair_cmp};

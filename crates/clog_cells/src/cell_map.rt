@@ -71,7 +71,7 @@ impl CellMap {
     }
 
     /// The newest cell of each key among these pairs, in whatever order they come. Want of memory is
-    /// answered also where there would be more than 4294967295 cells; the pairs are gone then.
+    /// answered also where there would be more than 4294967295 cells; a refusal leaves no pair.
     pub fn of_pairs(alloc: Global, pairs: Vec<(CellKey, Cell)>) -> Result<CellMap, OutOfMemory>
         ensures { IfOk result (IsMerge pairs.items) }
     {
@@ -108,8 +108,9 @@ impl CellMap {
         merge(&mut self.cells, other.cells)
     }
 
-    /// Merges with another map, by moving the cells of the one that has fewer. After a refusal part
-    /// of them is gone.
+    /// Merges with another map, by moving the cells of the one that has fewer. After a refusal the
+    /// map has the cells of the other one, and a part of those that were to be moved; the rest is
+    /// gone.
     pub fn join(&mut self, other: CellMap) -> Result<(), OutOfMemory>
         ensures { OnOk result (IsMerge (self.old ++ other) self.new) }
     {

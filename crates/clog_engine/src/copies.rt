@@ -1,5 +1,5 @@
 //! The cells that lent mutations merge to: copies of theirs, since the mutations go on to their
-//! writers. They are merged in batches.
+//! writers.
 ghost use Rattle.std.specs.Prelude.{◌≡◌, [], ◌∷◌, map, OnOk, IfOk};
 ghost use Rattle.std.specs.List.{flat_map};
 ghost use Rattle.clog_cells.specs.Batches.{Adds};

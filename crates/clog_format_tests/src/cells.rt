@@ -1,6 +1,6 @@
 //! What comes of a few cells, in any order.
 use super::same::same_text;
-use clog_cells::{Cell, CellKey, CellMap, Kind, Table, Text, newer};
+use clog_cells::{Cell, CellBatches, CellKey, CellMap, Kind, Table, Text, newer};
 use std::alloc::Global;
 use std::process::Abort;
 use std::test::Fail;
@@ -166,6 +166,26 @@ fn a_map_of_pairs_has_the_newest_of_each_key(rt: HostRuntime) -> Result<(), Fail
     assert_eq!(rt; rows.len(), 4);
     for (i, wanted) in MERGED.iter().enumerate() {
         is_row(&rt, rows.get(i), wanted);
+    }
+    Ok(())
+}
+
+// More cells than wait for their merge, of two keys in turn, by rising timestamps.
+fn put_many(alloc: Global) -> Result<CellMap, Fail> {
+    let mut cells = CellBatches::new(alloc);
+    for n in 0..65_600i64 {
+        let name = if n % 2 == 0 { "even" } else { "odd" };
+        cells.put(key(alloc, 0, name, "c")?, cell(alloc, n, Kind::Live, "v")?)?;
+    }
+    Ok(cells.into_map()?)
+}
+
+#[test]
+fn many_cells_of_few_keys_merge_to_the_newest(rt: HostRuntime) -> Result<(), Fail> {
+    let rows = put_many(rt.alloc())?.rows()?;
+    assert_eq!(rt; rows.len(), 2);
+    for (row, wanted) in rows.iter().zip([65_598, 65_599]) {
+        assert_eq!(rt; row.1.ts, wanted);
     }
     Ok(())
 }

@@ -54,7 +54,7 @@ pub record IsPutBy (i : Interval) (notes : List EntryNote) (pair : CellKey × Ce
 abbrev pub ArePutBy : Interval → List EntryNote → List (CellKey × Cell) → Type 0
 ArePutBy i notes cells = (pair : CellKey × Cell) → Contains cells pair ↔ IsPutBy i notes pair
 
--- Just these cells were put.
+-- What was put merges as these cells do.
 pub record IsFilled (i : Interval) (notes : List EntryNote) (cells : CellBatches) : Type 0 where
   pub pairs : List (CellKey × Cell)
   pub put : WerePut pairs cells

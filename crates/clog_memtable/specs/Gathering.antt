@@ -23,7 +23,7 @@ abbrev pub AreCellsOf : Table → List EntryNote → List (CellKey × Cell) → 
 AreCellsOf table notes cells =
     (pair : CellKey × Cell) → Contains cells pair ↔ IsCellOf notes table.0 pair
 
--- Just these cells were put.
+-- What was put merges as these cells do.
 pub record IsGathered (table : Table) (notes : List EntryNote) (cells : CellBatches)
     : Type 0 where
   pub pairs : List (CellKey × Cell)

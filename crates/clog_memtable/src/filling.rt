@@ -1,4 +1,4 @@
-//! The cells that an entry has of one table are put behind those of others, to be merged in batches.
+//! The cells that an entry has of one table are put behind those of others, to be merged with them.
 ghost use Rattle.std.specs.Prelude.{◌∷◌, [], OnOk, map};
 ghost use Rattle.clog_cells.specs.Batches.{Adds};
 ghost use Rattle.clog_cells.specs.Merge.{part_on};

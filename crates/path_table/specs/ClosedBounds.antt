@@ -27,10 +27,11 @@ key_below words t (suc m) = slice_index words (131144 + 16 * m + t) % 2 ^ 62
 abbrev pub last_key : List ℕ → ℕ → ℕ
 last_key words t = key_below words t (slice_index words (8 + 4 * t))
 
--- What a closed table tells of its tables' bounds in the state where its run ends: the last final
--- ones. Each is that of the memtable below the newest one, which is live yet, and key 0 where there
--- is none. That memtable's barrier is passed; its table file may be wanting, as after a flush that
--- was refused memory.
+-- What a closed table tells of its tables' bounds in the state where its run ends: of each the last
+-- final one, and key 0 where there is none. It is that of the memtable below the newest, whose
+-- barrier is passed; its table file may be wanting, as behind a flush that was refused memory. The
+-- newest memtable is live. Of tables 0 to 15 keys are told; those that a path has not got have one
+-- memtable, and so key 0.
 pub record TellsBounds (x : PathState) (bounds : TableBounds) : Type 0 where
   pub keys : (t : ℕ) → t < 16 → slice_index bounds.keys t ≡ bound_before x t (table_of x t).newest
   pub live : (t : ℕ) → (memtable_of x t (table_of x t).newest).bound ≡ Live

@@ -113,10 +113,10 @@ pub(crate) fn keeper_and_log<K: Keeper + Drop>(
 impl<K: Keeper + Drop> PathTable<K, Global> {
     /// Closes the table by a seat that took in all others and holds no turn. It answers the keeper,
     /// the log key, and of each table its last final bound, that of the memtable below the newest
-    /// one; and what the path was: one run of the
-    /// machine, in which each seat's steps are its own, and which ends in a lawful state with that
-    /// log key and these bounds, of which the keeper holds exactly what is lasting. Beside its log
-    /// it has what the keeper had for which the table was opened. What its memtables hold goes, in
+    /// one; and what the path was: one run of the machine, in which each seat's steps are its own,
+    /// and which ends in a lawful state with that log key and these bounds, of which the keeper
+    /// holds exactly what is lasting. Beside its log it has what the keeper had for which the table
+    /// was opened. What its memtables hold goes, in
     /// a thread for which nobody waits where it is much and one can be started. It needs no memory.
     pub fn finish<R: Threads>(
         self,

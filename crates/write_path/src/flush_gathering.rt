@@ -1,5 +1,5 @@
 //! What was written to a memtable is gathered behind its barrier, from the boxes of all seats, and
-//! merged in batches into the cells of a table file. For that its table's Flush turn is enough.
+//! merged into the cells of a table file. For that its table's Flush turn is enough.
 ghost use Rattle.std.specs.List.{list_any};
 ghost use Rattle.std.specs.Prelude.{◌≡◌, ℕ, suc, ◌<◌, ◌||◌, [], Some, true, nat_lt, IfSome};
 ghost use Rattle.clog_cells.specs.Batches.{WerePut};
@@ -62,7 +62,7 @@ fn told_some(done: Result<(), OutOfMemory>, some: bool) -> Option<bool>
     }
 }
 
-// The newest of these cells.
+// The newest of these cells, unless memory is refused for their map.
 fn merged(cells: CellBatches) -> Gathered
     ensures { IsMadeOf (Some true) cells result }
 {

@@ -10,7 +10,7 @@ pub returns : goal.returns
 returns c = let batch = c.in_ok-batch.batch in
     on_ok c.join.result _ _ c.join.ensures (λ both. none_waits c.args.self.now _ batch
     (subst (λ (l : List (CellKey × Cell)). IsMerge l batch)
-    (ap (λ (v : Vec (CellKey × Cell) Global). v.items) c.replace-full.ensures.value)
+    (ap (λ (v : Vec (CellKey × Cell) Global). v.items) c.replace-first.ensures.value)
     c.in_ok-batch.ensures) both
-    (ap (λ (v : Vec (CellKey × Cell) Global). v.items) c.replace-full.ensures.after
+    (ap (λ (v : Vec (CellKey × Cell) Global). v.items) c.replace-first.ensures.after
     ∙ c.new.ensures.items))

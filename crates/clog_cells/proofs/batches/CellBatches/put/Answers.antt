@@ -1,11 +1,9 @@
-use Rattle.std.proofs.Common.{[], ◌∷◌, refl}
+use Rattle.std.proofs.Common.{refl}
 use Rattle.clog_base.specs.declared.cell.Cell.{Cell}
 use Rattle.clog_base.specs.declared.cell.CellKey.{CellKey}
-use Rattle.clog_cells.proofs.Batched.{adds_both, one_waits}
+use Rattle.clog_cells.proofs.Batched.{one_merged}
 use Rattle.clog_cells.proofs.batches.CellBatches.put.Goals as goal
 
 pub returns : goal.returns
 returns c = let pair : CellKey × Cell = (c.args.key, c.args.cell) in
-    let middle = c.make_room.new.self in
-    adds_both c.args.self.now middle _ [] (pair ∷ []) c.in_ok-make_room.ensures
-    (one_waits middle _ pair refl c.in_ok-push.ensures.items)
+    one_merged c.args.self.now _ pair c.in-Ok.ensures.merged refl
