@@ -1,6 +1,7 @@
 //! What runs make of what a crash might have left: of each moment of the last run over a folder in
 //! memory a sample of its images is recovered by a run that takes nothing. What that leaves is told
-//! by another, so the recovery itself is read back; each answer is told once.
+//! by another, so the recovery itself is read back; each answer is told once, or how many cells each
+//! moment's answers have at least.
 use crate::outcome::put_printed;
 use crate::play::{clock_of, words_of};
 use anyhow::Result;
@@ -88,5 +89,49 @@ pub fn put_images<T: Threads + Wait + Sync>(
     for moment in first..disk.moment_count().saturating_add(1) {
         put_opened(rt, alloc, disk.images(moment)?, &mut told, out)?;
     }
+    Ok(())
+}
+
+// How many lines a text has behind its first two, which tell of the image and of the run.
+fn cell_count(text: &[u8]) -> usize {
+    text.iter()
+        .filter(|byte| **byte == b'\n')
+        .count()
+        .saturating_sub(2)
+}
+
+// How many cells come at least of these images.
+fn least_cells<T: Threads + Wait + Sync>(
+    rt: &T,
+    alloc: Global,
+    images: Vec<MemDisk>,
+) -> Result<usize> {
+    let mut least = usize::MAX;
+    for image in images {
+        least = least.min(cell_count(&opened(rt, alloc, image)?));
+    }
+    Ok(least)
+}
+
+/// Puts how many cells come at least of the images of each moment from one on, in order, each number
+/// once where moments behind one another have the same: what lasts at a moment lasts at later ones,
+/// so they rise.
+pub fn put_least<T: Threads + Wait + Sync>(
+    rt: &T,
+    alloc: Global,
+    out: &mut Vec<u8>,
+    disk: &MemDisk,
+    first: u64,
+) -> Result<()> {
+    let mut before = None;
+    out.extend_from_slice(b"least")?;
+    for moment in first..disk.moment_count().saturating_add(1) {
+        let least = least_cells(rt, alloc, disk.images(moment)?)?;
+        if before != Some(least) {
+            write!(out, " {least}")?;
+        }
+        before = Some(least);
+    }
+    out.push(b'\n')?;
     Ok(())
 }

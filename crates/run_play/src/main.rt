@@ -23,6 +23,7 @@
 //! | `changes` | tells each change of the folder since the case began, in order |
 //! | `images` | recovers what a crash may leave of the last run at each moment, each answer once |
 //! | `images last` | the same of the last moment alone, as a crash after the run leaves it |
+//! | `images least` | how many cells come at least of each moment's images, where that changes |
 //! | `output HEX` | these bytes are told as if a run had printed them |
 //!
 //! A run tells its words, its status, what it printed, each file with its length, and the moment

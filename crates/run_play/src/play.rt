@@ -1,7 +1,7 @@
 //! The cases are played: what stands between two lines, and what a line does to it.
 ghost use Rattle.std.specs.Prelude.{◌<◌, ◌^◌};
 
-use crate::images::put_images;
+use crate::images::{put_images, put_least};
 use crate::outcome::{put_bytes, put_changes, put_files, put_printed};
 use crate::script::{END, Step};
 use anyhow::Result;
@@ -113,6 +113,7 @@ impl Play {
                 let last = play.disk.moment_count();
                 put_images(rt, alloc, &mut out, &play.disk, last)?;
             }
+            Step::LeastCells => put_least(rt, alloc, &mut out, &play.disk, play.begun)?,
             Step::Output(bytes) => put_printed(&mut out, &bytes)?,
         }
         Ok((play, out))

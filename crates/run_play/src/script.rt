@@ -69,6 +69,8 @@ pub enum Step<'a> {
     Images,
     /// The same of the last moment alone.
     LastImages,
+    /// How many cells come at least of what a crash at each moment might have left is told.
+    LeastCells,
     /// These bytes are told as if a run had printed them.
     Output(Vec<u8>),
 }
@@ -164,6 +166,7 @@ fn images(rest: &str) -> Result<Step, Cause> {
     match rest {
         "" => Ok(Step::Images),
         "last" => Ok(Step::LastImages),
+        "least" => Ok(Step::LeastCells),
         _ => Err(Cause::Word),
     }
 }
