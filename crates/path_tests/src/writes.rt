@@ -99,6 +99,9 @@ fn one_write_is_the_whole_history(rt: HostRuntime) -> Result<(), Fail> {
     seats.push(seat)?;
     let (_keeper, outcome) = path.close(&rt, alloc, seats);
     // No memtable was switched.
-    assert_eq!(&rt; (outcome.end, outcome.bounds.of(Table(0))), (Key(60), Key(0)));
+    assert_eq!(&rt;
+        (outcome.end, outcome.bounds.of(Table(0))),
+        (Key(60), Key(0))
+    );
     Ok(())
 }
