@@ -38,3 +38,15 @@ over 100000 1 4 8 64
 measure 1 --flush-at 1000
 over 700000 8
 measure 8 --flush-at 1000
+
+# The self-check makes its lines, so it can have more of them than a file: it applies them by four
+# writers to three tables, flushes each at 1,000 updates of a writer, and replays the folder.
+for count in 10000 100000 1000000; do
+    rm -rf "$work/run"
+    mkdir "$work/run"
+    (cd "$work/run" && /usr/bin/time -f '%e %U %S %M' -o "$work/time" "$program" drill 7 "$count" \
+        >"$work/out")
+    awk -v n="$count" '{
+        printf "drill of %7d lines %6.2f us a line, %5.2f of processors, %5.0f MiB\n", n, 1e6 * $1 / n,
+            1e6 * ($2 + $3) / n, $4 / 1024 }' "$work/time"
+done

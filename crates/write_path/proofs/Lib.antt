@@ -6,6 +6,7 @@ pub mod BoxKept
 pub mod Answered
 pub mod LogAfter
 pub mod PlacedAt
+mod PlacedOnce
 pub mod UpdatesPut
 pub mod AppliedAt
 pub mod Handing

@@ -114,6 +114,7 @@ use Rattle.path_table.specs.ClosedBounds.{TellsBounds}
 use Rattle.path_table.specs.Members.{view_of, part_of}
 use Rattle.write_path.proofs.NonePassed.{first_part, none_passed}
 use Rattle.write_path.proofs.Parted.{parts_at}
+use Rattle.write_path.proofs.PlacedOnce.{placed_once}
 use Rattle.write_path.proofs.Histories.{noted, writes_are, run_notes, by_all, all_noted}
 use Rattle.write_path.proofs.SealedApart.{behind_sealed, sealed_apart}
 
@@ -246,6 +247,7 @@ module _ {K : Type 0} (size : PathSize) where
           lawful = subst (λ c. IsHistory c x.notes) z.capacity
               (is_history x L.claims_tile_the_log L.notes_are_claims);
           whole = λ n m. (L.notes_are_claims.each n m).whole;
+          placed = placed_once x L idle;
           below = λ n m. let c = (L.notes_are_claims.each n m).claim in
               let read : claim_in x.claims c.0 ≡ entry_claim n.writer.0 n.start.0 n.end.0 =
               get_or_default x.claims c.0 no_claim _ c.1 ∙ c.2 in
@@ -416,6 +418,7 @@ module _ {K : Type 0} (size : PathSize) where
             apart = λ i j d l m. absurd (omega arith);
           };
           whole = λ n m. absurd (let l = m.1 in omega arith);
+          placed = λ n m. absurd (let l = m.1 in omega arith);
           below = λ n m. absurd (let l = m.1 in omega arith);
           synced_below = omega arith;
           found_log = subst (λ (l : List (PathSeat K)). All (HasComeFor end) l)

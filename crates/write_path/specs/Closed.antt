@@ -16,6 +16,7 @@ use Rattle.std.specs.Prelude.{
   Option,
   Some,
   None,
+  IsTrue,
 }
 use Rattle.std.specs.List.{All, Contains, filter, flat_map, range_with_len, sum_by}
 use Rattle.std.specs.List.Sorted.{IsPermutation}
@@ -33,6 +34,8 @@ use Rattle.path_core.specs.Keeper.{Holding, HasRisen, PutFile}
 use Rattle.path_core.specs.Keys.{after, ordinal_of}
 use Rattle.path_core.specs.LawfulLog.{is_at_most}
 use Rattle.path_core.specs.Next.{is_between}
+use Rattle.path_core.specs.Parts.{touches}
+use Rattle.path_core.specs.Promises.{IsPlacedRight}
 use Rattle.path_core.specs.Runs.{Past}
 use Rattle.path_core.specs.Whole.{IsWhole}
 use Rattle.path_rule.specs.declared.view.PathSize.{PathSize}
@@ -169,6 +172,10 @@ pub record IsOutcome {K : Type 0} (size : PathSize) (seats : List (PathSeat K)) 
   pub of_writes : IsPermutation (all_writes seats) core.notes
   pub lawful : IsHistory size.capacity core.notes
   pub whole : (n : EntryNote) → Contains core.notes n → IsWhole n
+  -- each stands in exactly one memtable of each of its tables, the one whose interval of the log
+  -- holds its position
+  pub placed : (n : EntryNote) → Contains core.notes n → (t : ℕ) → IsTrue (touches n.tables t)
+      → IsPlacedRight core t n.end.0
   -- they end at or below the log's end
   pub below : (n : EntryNote) → Contains core.notes n → n.end.0 ≤ end
   pub synced_below : h.synced ≤ end

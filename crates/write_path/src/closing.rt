@@ -79,8 +79,9 @@ fn close_by_all<R: Threads, K: Keeper + Drop>(
 impl<K: Keeper + Drop> WritePath<K, Global> {
     /// Closes the path with all of its seats, or with none where they were not handed out. It gives
     /// the keeper back, and where the log ends: what the seats wrote, together, is a lawful
-    /// history, and the keeper has its part up to the synced key; the bounds are those of the run's
-    /// last state. It goes back to the disk of the keeper over which the path was opened. A marker
+    /// history, and the keeper has its part up to the synced key; each write stands in exactly one
+    /// memtable of each of its tables, the one whose interval of the log holds its position; the
+    /// bounds are those of the run's last state. It goes back to the disk of the keeper over which the path was opened. A marker
     /// stands between each write that is sealed in its seat's trail and each later one of that
     /// seat. Of a path that was opened by `open_filing` each table file is true of that history and
     /// stands for an entry of it, what a seat knows to be flushed lies in files, a memtable that a
