@@ -1,7 +1,7 @@
 # What the benchmarks share: the built program, a folder of their own, and mutation lines with
 # distinct keys. Sourced, with `top` set to the repository.
 program=$top/crates/clog_tool/out/clog_tool
-[ -x "$program" ] || { echo "build it first: $top/pinsilver apply </dev/null" >&2; exit 1; }
+[ -x "$program" ] || { echo "build it first: $top/pinsilver scan CommitLog-6-1.log" >&2; exit 1; }
 # The memory settings with which the launcher runs it.
 GLIBC_TUNABLES=$(sed -n 's/^tunables=//p' "$top/pinsilver")
 export GLIBC_TUNABLES

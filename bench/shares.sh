@@ -2,7 +2,7 @@
 # Time a line and peak memory of `apply` by 1, 4, 8 and 64 writers for 100,000 lines with distinct
 # keys, and by 8 writers for 10,000 and 700,000, nearly the largest file: the least of three runs
 # each. So too with a flush of each table at 1,000 updates of a writer: of 100,000 lines to 16 tables
-# one writer makes 96 flushes, of 700,000 each of 8 writers 80. Needs GNU time and a built program.
+# one writer makes 96 flushes, of 700,000 each of 8 writers 86. Needs GNU time and a built program.
 # No part of the gate.
 set -e
 top=$(cd "$(dirname "$0")/.." && pwd)
