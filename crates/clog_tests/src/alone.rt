@@ -19,13 +19,15 @@ use std::thread::Threads;
 use sync_core::SyncCore;
 use write_path::{Commit, Flush, PathSeat, Prepared, WritePath};
 
-/// Before a value's length: key `k`, table 0, column `c`, timestamp 1.
-const BEFORE_LENGTH: &[u8] = b"\x00\x01k\x00\x01\x00\x00\x01c\x00\x00\x00\x00\x00\x00\x00\x01\x01";
+/// Between a table and a value's length: column `c`, timestamp 1.
+const BEHIND_TABLE: &[u8] = b"\x00\x01c\x00\x00\x00\x00\x00\x00\x00\x01\x01";
 
-/// The payload of a value of so many letters. Its entry is 34 bytes longer.
-pub(crate) fn payload_of(alloc: Global, letters: u32) -> Result<Vec<u8>, Fail> {
+/// The payload of a value of so many letters, with a key of one byte, in a table. Its entry is 34
+/// bytes longer.
+pub(crate) fn payload_of(alloc: Global, key: u8, table: u8, letters: u32) -> Result<Vec<u8>, Fail> {
     let mut payload = Vec::new(alloc);
-    payload.extend_from_slice(BEFORE_LENGTH)?;
+    payload.extend_from_slice(&[0, 1, key, 0, 1, table])?;
+    payload.extend_from_slice(BEHIND_TABLE)?;
     payload.extend_from_slice(&letters.to_be_bytes())?;
     for _ in 0..letters {
         payload.push(b'x')?;
@@ -34,7 +36,12 @@ pub(crate) fn payload_of(alloc: Global, letters: u32) -> Result<Vec<u8>, Fail> {
 }
 
 // The write of a line with this payload.
-fn prepared(alloc: Global, sizes: Sizes, line: u32, payload: &[u8]) -> Result<Prepared, Fail>
+pub(crate) fn prepared(
+    alloc: Global,
+    sizes: Sizes,
+    line: u32,
+    payload: &[u8],
+) -> Result<Prepared, Fail>
     requires { sizes.tables ≡ 16 }
     ensures { IfOk result (λ p. (m : Mutation) × IsPrepared sizes line m p) }
 {

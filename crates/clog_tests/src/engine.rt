@@ -33,7 +33,7 @@ const REPLAYED: &[u8] = b"segments 2\ntables 0\nentries 2\nupdates 2\nskipped 0\
 // Each entry of that line has 32 bytes, and the header and the marker 28.
 const RECEIPTS: &[u8] = b"applied 2\nreceipt 1 1000 92\nreceipt 2 1000 60\n";
 
-fn words_of(alloc: Global, list: &[&str]) -> Result<Vec<String>, Fail> {
+pub(crate) fn words_of(alloc: Global, list: &[&str]) -> Result<Vec<String>, Fail> {
     let mut words = Vec::new(alloc);
     for word in list {
         words.push(String::from_str(alloc, word)?)?;

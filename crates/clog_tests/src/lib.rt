@@ -3,6 +3,8 @@
 #![tactic(auto)]
 
 #[cfg(test)]
+mod acknowledged;
+#[cfg(test)]
 mod alone;
 #[cfg(test)]
 mod engine;
@@ -14,6 +16,8 @@ mod lines;
 mod logged;
 #[cfg(test)]
 mod over_a_store;
+#[cfg(test)]
+mod pair;
 #[cfg(test)]
 mod payloads;
 #[cfg(test)]

@@ -66,8 +66,8 @@ fn commit_until_refused<R: Wait>(rt: &R, alloc: Global) -> Result<[Commit; 3], F
     calls.push(8)?;
     let alone = Alone::open(alloc, MemDisk::failing(alloc, calls), SyncCore::batch())?;
     let (alone, first) = alone.commit(rt, alloc, 1, DELETION)?;
-    let (alone, second) = alone.commit(rt, alloc, 2, payload_of(alloc, 1)?.as_slice())?;
-    let (_alone, third) = alone.commit(rt, alloc, 3, payload_of(alloc, 2)?.as_slice())?;
+    let (alone, second) = alone.commit(rt, alloc, 2, payload_of(alloc, b'k', 0, 1)?.as_slice())?;
+    let (_alone, third) = alone.commit(rt, alloc, 3, payload_of(alloc, b'k', 0, 2)?.as_slice())?;
     Ok([first, second, third])
 }
 
@@ -89,7 +89,7 @@ fn a_third_commit_is_not_lasting_where_its_sync_fails(rt: HostRuntime) -> Result
 
 // A flush behind three entries of 2048 bytes, each in a segment of its own.
 fn flush_segments<R: Threads + Wait>(rt: &R, alloc: Global) -> Result<(Flush, MemDisk), Fail> {
-    let payload = payload_of(alloc, 2014)?;
+    let payload = payload_of(alloc, b'k', 0, 2014)?;
     let alone = Alone::open(alloc, MemDisk::new(alloc), PERIODIC)?;
     let (alone, _first) = alone.commit(rt, alloc, 1, payload.as_slice())?;
     let (alone, _second) = alone.commit(rt, alloc, 2, payload.as_slice())?;
