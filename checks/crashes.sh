@@ -1,9 +1,10 @@
 # Runs of 1 to 64 writers, in both modes, also with a short period, that flush, drain, archive, or
 # do neither, are killed: half of them at random moments, half at a chosen call. What each leaves
 # can be read, and the next run recovers it. Nothing of before is lost, of each writer the first of
-# its lines are there, all of a run that has said so, and in batch mode a line at least for each
-# sync of the log that returned. Segments are whole, archived or left, but for the last one where it
-# is left, and hold each line once at most; table files of a table follow one another.
+# its lines are there, all of a run that has said so, and each line that was lasting: most runs are
+# traced, and tell which lines a sync has had that returned. Segments are whole, archived or left,
+# but for the last one where it is left, and hold each line once at most; table files of a table
+# follow one another.
 . "$top/checks/lib"
 
 # So many runs are to be killed, half of them in each of the two ways, and at most so many are made
@@ -45,23 +46,41 @@ keys_of() { sed -n 's/.*"key":"\([^"]*\)".*/\1/p' | sort; }
 # A number below another, by the run's.
 chance() { awk -v n="$run" -v most="$1" 'BEGIN { srand(n); printf "%d", rand() * most }'; }
 
-# Kills the run at a random moment of the time that one with these words takes.
-kill_at_a_moment() {
-    mkdir -p elsewhere
-    start=$(date +%s%N)
-    (cd elsewhere && "$program" $words <../input >/dev/null)
-    took=$((($(date +%s%N) - start) / 1000))
-    rm -rf elsewhere
-    (exec "$program" $words <input >said 2>/dev/null) &
-    sleep "$(awk -v us="$(chance "$took")" 'BEGIN { printf "%.6f", us / 1e6 }')"
-    kill -9 $! 2>/dev/null
-    wait $! 2>/dev/null
-    [ $? -ne 137 ] || killed=$((killed + 1))
-    synced=0
+# Has strace write to `trace` what a run writes, and to which file, and what it syncs.
+strace_log='strace -f -y -s 65535 -o trace -e trace=write,fsync'
+
+# Runs the program in a folder, behind such words. Before it begins it tells `process` its number.
+begin() {
+    cd "$1" || exit 1
+    shift
+    exec "$@" sh -c 'echo $$ >"$0" && exec "$@"' "$folder/process" "$program" $words \
+        <"$folder/input"
 }
 
-# Kills it at a call of some number, if it comes so far. `synced` is how many syncs of the log had
-# returned.
+# Kills the run at a random moment of the time that one with these words takes. Where calls can be
+# traced, those of three of four runs are, and these are not killed in the first third of that time,
+# in which next to nothing is lasting.
+kill_at_a_moment() {
+    tracer= first=0
+    [ -z "$traced" ] || [ $((run % 4)) -eq 0 ] || tracer=$strace_log
+    mkdir -p elsewhere
+    (begin elsewhere $tracer >/dev/null) &
+    read -r process <process
+    start=$(date +%s%N)
+    wait $!
+    took=$((($(date +%s%N) - start) / 1000))
+    rm -rf elsewhere
+    [ -z "$tracer" ] || first=$((took / 3))
+    pause=$(awk -v us=$((first + $(chance $((took - first))))) 'BEGIN { printf "%.6f", us / 1e6 }')
+    (begin . $tracer >said 2>/dev/null) &
+    read -r process <process
+    sleep "$pause"
+    kill -9 "$process" 2>/dev/null
+    wait $! 2>/dev/null
+    [ $? -ne 137 ] || killed=$((killed + 1))
+}
+
+# Kills it at a call of some number, if it comes so far.
 kill_at_a_call() {
     set -- fsync write openat fsync rename fsync unlink fsync write statx
     shift $((run / 3 % 10))
@@ -73,19 +92,57 @@ kill_at_a_call() {
     rename:* | unlink:*:) most=1 ;;
     unlink:*) most=8 ;;
     *:*batch*) most=$((count / writers + 2)) ;;
-    fsync:*period* | write:*period*) most=24 ;;
+    fsync:* | write:*) most=24 ;;
     *) most=8 ;;
     esac
     [ $most -le 48 ] || most=48
-    strace -f -y -s 0 -o trace -e trace=fsync,"$1" \
-        -e inject="$1":signal=KILL:when=$(($(chance $most) + 1)) \
+    $strace_log,"$1" -e inject="$1":signal=KILL:when=$(($(chance $most) + 1)) \
         "$program" $words <input >said 2>/dev/null &
     wait $! 2>/dev/null
     [ $? -ne 137 ] || killed=$((killed + 1))
-    synced=$(awk '/fsync\(.*CommitLog-/ && / = 0$/ { n++ }
-        /fsync\(.*CommitLog-.*unfinished/ { waits[$1] = 1 }
-        /fsync resumed.* = 0$/ && waits[$1] { n++; waits[$1] = 0 }
-        END { print n + 0 }' trace)
+}
+
+# The keys of the lines that were lasting, by the trace: a sync has returned that began when the
+# line was written to its segment, whatever process did either, and where `strace` tells a call's
+# end on a line of its own. What a sync makes lasting is entries of 51 bytes, since all lines of a
+# run have one length, behind a header of 20 bytes where its segment begins, and markers of 8 bytes:
+# so the bytes tell too how many lines they hold.
+lasting() {
+    awk '
+        function keys_in(text,  found) {
+            while (match(text, /[0-9][0-9][0-9]-[0-9][0-9][0-9][0-9]/)) {
+                found = found substr(text, RSTART, RLENGTH) "\n"
+                text = substr(text, RSTART + RLENGTH)
+            }
+            return found
+        }
+        /^[0-9]+ +[a-z0-9_]+\(/ { call[$1] = "" }
+        match($0, /^[0-9]+ +(write|fsync)\([0-9]+<[^>]*CommitLog-6-[0-9]+\.log/) {
+            call[$1] = $2 ~ /^write/ ? "write" : "sync"
+            id = substr($0, 1, RLENGTH)
+            sub(/.*-/, "", id)
+            of[$1] = id
+            if (call[$1] == "write") keys[$1] = keys_in(substr($0, RLENGTH))
+            else {
+                keys[$1] = written[id]; size[$1] = bytes[id]
+                written[id] = ""; bytes[id] = 0
+            }
+        }
+        call[$1] != "" && / = [0-9]+$/ {
+            id = of[$1]
+            if (call[$1] == "write") {
+                written[id] = written[id] keys[$1]
+                bytes[id] += $NF
+            } else if (size[$1] > 0) {
+                printf "%s", keys[$1]
+                left = size[$1] - (id in begun ? 8 : 28)
+                begun[id] = 1
+                while (left % 51 != 0) left -= 8
+                if (left / 51 != length(keys[$1]) / 9)
+                    print id, size[$1] " bytes of " length(keys[$1]) / 9 >"/dev/stderr"
+            }
+            call[$1] = ""
+        }' trace | sort
 }
 
 # The names in the folder that begin so; none where there is no folder.
@@ -167,10 +224,13 @@ wrong() {
     comm -13 earlier found >own
     awk -v writers="$writers" '{ n = substr($1, 5) + 0; w = n % writers
         have[w]++; if (n > last[w]) last[w] = n }
-        END { for (w in have) if (last[w] != (w + 0 ? w : writers) + writers * (have[w] - 1)) exit 1 }' \
-        own || echo first
+        END {
+            for (w in have)
+                if (last[w] != (w + 0 ? w : writers) + writers * (have[w] - 1)) exit 1
+        }' own || echo first
     [ ! -s said ] || [ "$(wc -l <own)" -eq $count ] || echo said
-    [ "$(wc -l <own)" -ge "$synced" ] || echo "synced $synced of $(wc -l <own)"
+    lasting >synced
+    [ -z "$(comm -23 synced own)" ] || echo "synced $(comm -23 synced own | wc -l)"
     names . | sed -e '/^\(Archive-\)\{0,1\}CommitLog-6-[1-9][0-9]*\.log$/d' \
         -e '/^Table-[01]-[1-9][0-9]*\.tbl$/d' -e '/^being-/d'
     wrong_segments
@@ -187,7 +247,7 @@ go_on() {
 
 # Makes runs that are killed in this way, until so many were, or it is given up.
 kill_runs() {
-    lost= killed=0 some=0 syncs=0 run=0
+    lost= killed=0 some=0 behind=0 run=0
     while [ $killed -lt "$3" ] && [ $run -lt $most_runs ]; do
         if [ $((run % runs_a_folder)) -eq 0 ]; then
             rm -rf commitlog
@@ -198,27 +258,35 @@ kill_runs() {
         make_lines
         names Archive- >archived
         : >said
+        : >trace
+        others=$killed
         "$1"
         bad=$(wrong 2>&1; go_on 2>&1)
         [ -z "$bad" ] || lost="$lost $run:$bad"
         [ -s said ] || [ ! -s own ] || some=$((some + 1))
-        syncs=$((syncs + synced))
+        [ $killed -eq $others ] || [ ! -s synced ] || behind=$((behind + 1))
     done
     all=$((all + killed))
-    that "runs killed $2 ($killed of $run; $some with some lines, $syncs syncs seen) lose nothing \
-($lost)" test -z "$lost"
+    all_behind=$((all_behind + behind))
+    that "runs killed $2 ($killed of $run; $some with some lines, $behind with lasting ones) lose \
+nothing ($lost)" test -z "$lost"
 }
 
 fresh
+mkfifo process
+traced=
+! traces || traced=yes
 run=8
 words_of
 make_lines
 "$program" $words <input >said
 that 'a run that is not killed ends well' test "$(cat said)" = "applied $count"
-all=0
-if traces; then
+all=0 all_behind=0
+if [ -n "$traced" ]; then
     kill_runs kill_at_a_moment 'at random moments' $((kills / 2))
     kill_runs kill_at_a_call 'at chosen calls' $((kills - all))
+    that "many of them had lines that were lasting ($all_behind)" \
+        test $all_behind -gt $((kills / 4))
 else
     skipped 'no strace'
     most_runs=$((2 * most_runs))

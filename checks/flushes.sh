@@ -71,6 +71,30 @@ skipped 255
 **' '' "$pinsilver" replay
 many 256 | expect 'a drain alone has no such limit' 0 'applied 256' '' "$pinsilver" apply --drain
 
+# Two writers with 256 lines each, over an older line. Each has a table of its own, so it finds no
+# table in the hands of the other one, when several lines would go with a flush: whichever comes
+# first to its last line wants a flush too many, and ends the run.
+keys_of() { sed -n 's/.*"key":"\([^"]*\)".*/\1/p'; }
+fresh
+put x 2 | "$pinsilver" apply >/dev/null
+awk 'BEGIN { for (i = 1; i <= 512; i++)
+    printf "{\"key\":\"%03d\",\"updates\":[{\"table\":%d,\"column\":\"c\",\"ts\":1," \
+        "\"value\":null}]}\n", i, i % 2 }' >input
+expect 'one flush more by one of two writers' 10 'error 10: limit memtables 256' '' \
+    "$pinsilver" apply --writers 2 --flush-at 1 <input
+"$pinsilver" replay | keys_of | sort >found
+awk '$1 == "x" { older++; next }
+    { w = $1 % 2; have[w]++; if ($1 > last[w]) last[w] = $1 }
+    END { print last[1] - (2 * have[1] - 1), last[0] - 2 * have[0],
+        (have[0] == 256 || have[1] == 256), older }' found >seen
+that 'the older line is there, of each writer the first, and all lines of the one' \
+    test "$(cat seen)" = '0 0 1 1'
+put y 3 | expect 'the next run goes on' 0 'applied 1' '' "$pinsilver" apply --drain
+that 'and leaves no segment' test "$(ls commitlog | grep -c '^CommitLog-')" -eq 0
+(cat found; echo y) >wanted
+"$pinsilver" replay | keys_of | sort | cmp -s - wanted
+that 'and all of these lines' test $? -eq 0
+
 # The lines that a drill makes from seed 7, so many.
 made() {
     awk -v count="$1" 'BEGIN {
