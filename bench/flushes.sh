@@ -1,8 +1,8 @@
 #!/bin/sh
-# What flushes cost: the time of `apply` for 100,000 lines with distinct keys to 16 tables by 1, 4, 8
-# and 64 writers, without flushes and with one of each table at 1,000 updates of a writer, by turns,
-# the least of nine runs each; over a folder in memory, and over one on the device of TMPDIR. Needs a
-# built program. No part of the gate.
+# What flushes cost: the time of `apply` for 100,000 lines with distinct keys to 16 tables by 1, 4,
+# 8 and 64 writers, without flushes and with one of each table at 1,000 updates of a writer, by
+# turns, the least of nine runs each; over a folder in memory, and over one on the device of TMPDIR.
+# Needs a built program. No part of the gate.
 set -e
 top=$(cd "$(dirname "$0")/.." && pwd)
 . "$top/bench/setup.sh"
@@ -36,8 +36,10 @@ measure() {
         turns $writers | awk -v where="$1" -v w=$writers '
             !($1 in least) || $2 < least[$1] { least[$1] = $2 }
             END {
+                plain = least["plain"]
+                flushed = least["flushed"]
                 printf "%-9s %2d writers: %4.0f ms, with flushes %4.0f, %.2f times\n", where, w,
-                    least["plain"] / 1000, least["flushed"] / 1000, least["flushed"] / least["plain"]
+                    plain / 1000, flushed / 1000, flushed / plain
             }'
     done
 }

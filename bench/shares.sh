@@ -1,9 +1,9 @@
 #!/bin/sh
 # Time a line and peak memory of `apply` by 1, 4, 8 and 64 writers for 100,000 lines with distinct
 # keys, and by 8 writers for 10,000 and 700,000, nearly the largest file: the least of three runs
-# each. So too with a flush of each table at 1,000 updates of a writer: of 100,000 lines to 16 tables
-# one writer makes 96 flushes, of 700,000 each of 8 writers 86. Needs GNU time and a built program.
-# No part of the gate.
+# each. So too with a flush of each table at 1,000 updates of a writer: of 100,000 lines to 16
+# tables one writer makes 96 flushes, of 700,000 each of 8 writers 86. And of `drill` with 10,000 to
+# 1,000,000 lines, each once. Needs GNU time and a built program. No part of the gate.
 set -e
 top=$(cd "$(dirname "$0")/.." && pwd)
 . "$top/bench/setup.sh"
@@ -47,6 +47,6 @@ for count in 10000 100000 1000000; do
     (cd "$work/run" && /usr/bin/time -f '%e %U %S %M' -o "$work/time" "$program" drill 7 "$count" \
         >"$work/out")
     awk -v n="$count" '{
-        printf "drill of %7d lines %6.2f us a line, %5.2f of processors, %5.0f MiB\n", n, 1e6 * $1 / n,
-            1e6 * ($2 + $3) / n, $4 / 1024 }' "$work/time"
+        printf "drill of %7d lines %6.2f us a line, %5.2f of processors, %5.0f MiB\n", n,
+            1e6 * $1 / n, 1e6 * ($2 + $3) / n, $4 / 1024 }' "$work/time"
 done
