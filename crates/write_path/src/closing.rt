@@ -81,14 +81,14 @@ impl<K: Keeper + Drop> WritePath<K, Global> {
     /// the keeper back, and where the log ends: what the seats wrote, together, is a lawful
     /// history, and the keeper has its part up to the synced key; each write stands in exactly one
     /// memtable of each of its tables, the one whose interval of the log holds its position; the
-    /// bounds are those of the run's last state. It goes back to the disk of the keeper over which the path was opened. A marker
-    /// stands between each write that is sealed in its seat's trail and each later one of that
-    /// seat. Of a path that was opened by `open_filing` each table file is true of that history and
-    /// stands for an entry of it, what a seat knows to be flushed lies in files, a memtable that a
-    /// seat retired with a table file has that file, one that it retired without holds nothing, and
-    /// each segment that was dropped, or has its archive name, may go; of one that was opened by
-    /// `open` there is no file, and no segment has gone. What commits and syncs have answered is so
-    /// of the trails at the end too (`what_close_keeps`).
+    /// bounds are those of the run's last state. It goes back to the disk of the keeper over which
+    /// the path was opened. A marker stands between each write that is sealed in its seat's trail
+    /// and each later one of that seat. Of a path that was opened by `open_filing` each table file
+    /// is true of that history and stands for an entry of it, what a seat knows to be flushed lies
+    /// in files, a memtable that a seat retired with a table file has that file, one that it
+    /// retired without holds nothing, and each segment that was dropped, or has its archive name,
+    /// may go; of one that was opened by `open` there is no file, and no segment has gone. What
+    /// commits and syncs have answered is so of the trails at the end too (`what_close_keeps`).
     ///
     /// What the memtables hold goes, in a thread for which nobody waits where it is much and one
     /// can be started. It needs no memory.
