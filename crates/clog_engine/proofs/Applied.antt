@@ -50,12 +50,18 @@ use Rattle.clog_engine.specs.declared.status.Status.TheVariants.{
   Memtables,
   Absent,
 }
-use Rattle.clog_engine.specs.Apply.{Applies, ApplyRefuses, LeavesPart, ReadsGood}
+use Rattle.clog_engine.specs.Apply.{Applies, ApplyRefuses, IsPartly, LeavesPart, ReadsGood}
 use Rattle.clog_engine.specs.Before.{FolderRefuses}
 use Rattle.clog_engine.specs.Input.{IsSized, MayWantGroups}
 use Rattle.clog_engine.specs.Planning.{FileRefused}
 use Rattle.clog_engine.specs.Limits.{group_limit}
-use Rattle.clog_engine.specs.Logged.{AppliesLines, KeepsAll, LeavesSome, LinesRefuse}
+use Rattle.clog_engine.specs.Logged.{
+  AppliesLines,
+  AreLogged,
+  KeepsAll,
+  LeavesSome,
+  LinesRefuse,
+}
 use Rattle.clog_engine.specs.Outside.{IsLeftAlone, Outside}
 use Rattle.clog_engine.specs.Refusal.{folder_status}
 
@@ -141,16 +147,19 @@ module _ (options : ApplyOptions) (o : Outside) (bytes : List ℕ) (ms : List Mu
     many : group_limit ≤ 1 + length ms → MayWantGroups (capacity_of options) bytes
     many all = record { mutations = ms; sized = sized; many = all }
 
-    part_of_file : LeavesSome options ms o → LeavesPart options o
-    part_of_file (inl still) = inl still
-    part_of_file (inr (inl kept)) = inr (inl kept)
-    part_of_file (inr (inr logged)) = inr (inr (record {
+    partly : AreLogged o options ms 0 → IsPartly options o
+    partly logged = record {
       bytes = bytes;
       taken = taken;
       mutations = ms;
       sized = sized;
       logged = logged;
-    }))
+    }
+
+    part_of_file : LeavesSome options ms o → LeavesPart options o
+    part_of_file (inl still) = inl still
+    part_of_file (inr (inl kept)) = inr (inl kept)
+    part_of_file (inr (inr logged)) = inr (inr (partly logged))
 
     refuses_file : (status : Status) → LinesRefuse options ms status o
         → ApplyRefuses options status o
@@ -170,10 +179,10 @@ module _ (options : ApplyOptions) (o : Outside) (bytes : List ℕ) (ms : List Mu
     refuses_file (Limit Ids most) refused = (refused.0, good, refused.1, refused.2)
     refuses_file (Limit TableFiles most) refused = (refused.0, good, refused.1, refused.2)
     refuses_file (Groups most) refused =
-        (refused.0, (bytes, taken, many refused.1), part_of_file refused.2)
+        (refused.0, (bytes, taken, many refused.1), partly refused.2)
     refuses_file (Memtables most) refused = (
       (bytes, taken, record { mutations = ms; sized = sized; many = refused.0 }),
-      part_of_file refused.1,
+      partly refused.1,
     )
     refuses_file (Absent name) refused = absurd refused
 

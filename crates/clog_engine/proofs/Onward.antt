@@ -32,7 +32,7 @@ use Rattle.clog_applied.specs.Filed.{BringsNoOther, KeepsOthers}
 use Rattle.clog_applied.specs.History.{LoggedLine}
 use Rattle.clog_closing.specs.Logs.{id_of}
 use Rattle.clog_closing.specs.Written.{AreMadeFor}
-use Rattle.clog_segments.specs.Opened.{RecoversAll}
+use Rattle.clog_segments.specs.Opened.{CanBeOpened, RecoversAll}
 use Rattle.clog_writers.specs.Left.{SaysShares}
 use Rattle.clog_engine.specs.Logged.{
   AddsFirst,
@@ -112,6 +112,7 @@ module _ (o n : Outside) (on : IsOnward o n) (options : ApplyOptions) (ms : List
 
   logged_on : (least : ℕ) → AreLogged o options ms least → AreLogged n options ms least
   logged_on least w = record {
+    opened = subst (λ (f : Option Files). IfSome f CanBeOpened) (sym on.files) w.opened;
     told = subst (λ (f : Option Files). SameTold f n.files_now) (sym on.files)
         (subst (λ (f : Option Files). SameTold o.files f) (sym on.files_now) w.told);
     wrote = subst (λ (f : Option Files). IfSome f
@@ -188,6 +189,7 @@ module _ (o : Outside) (options : ApplyOptions) (ms : List Mutation) where
   pub logged_less : (least : ℕ) → AreLogged o options ms least → AreLogged o options ms 0
   logged_less least w = record {
     told = w.told;
+    opened = w.opened;
     wrote = w.wrote;
     others = w.others;
     lasts = if_some o.files _ _ (λ before has lasting.

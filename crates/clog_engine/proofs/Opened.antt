@@ -38,6 +38,7 @@ use Rattle.clog_folder.proofs.Passing.{both, no_call}
 use Rattle.clog_applied.specs.Filed.{BringsNoOther, IsNewName, KeepsOthers}
 use Rattle.clog_applied.specs.History.{LoggedLine}
 use Rattle.clog_segments.specs.Opened.{
+  CanBeOpened,
   IsOpened,
   IsRecovered,
   KeepsFolder,
@@ -118,6 +119,7 @@ left_over : {D C : Type 0} (disk : DiskTells D) (clock : ClockTells C)
     → IsLeftAlone (outside_with left left_now f g disk clock start now at)
 left_over disk clock left left_now f g start now at only still = record {
   still = still.same;
+  changes = still.changes_are;
   meanwhile = λ image since.
       elim (still.time.nothing_else (disk.moment start) image (omega arith) since) [
         | inl old ↦ only image old
@@ -206,6 +208,12 @@ module _ {D C : Type 0} (disk : DiskTells D) (clock : ClockTells C)
       → LeavesOnly disk.moment disk.since looked opened (KeepsFolder first))
       (recovers : (first : Files) → disk.files looked ≡ Some first
       → RecoversAll first (disk.changes looked) (disk.changes opened)) where
+    -- the folder could be opened
+    pub could_open : (now : D) → IfSome (outside_at now).files CanBeOpened
+    could_open now = if_told (disk.files start) (disk.files looked) CanBeOpened still.same.files
+        (λ first is.
+        (opened_as (disk.files looked) (disk.files opened) moment base first is opens).2.within)
+
     -- no other name has come than those of a log, over the opening too
     no_stray : (now : D) (first : Files) → disk.files looked ≡ Some first → (log : List Write)
         → BringsOnly disk.files opened now log → SameTold (disk.files opened) (disk.files now)

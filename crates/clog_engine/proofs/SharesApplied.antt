@@ -36,7 +36,7 @@ use Rattle.clog_mutation.specs.declared.mutation.Mutation.{Mutation}
 use Rattle.clog_mutation.specs.Payload.{cells_of}
 use Rattle.clog_words.specs.declared.request.ApplyOptions.{ApplyOptions}
 use Rattle.clog_crash.specs.Restore.{IsRestored}
-use Rattle.clog_segments.specs.Opened.{IsOpened}
+use Rattle.clog_segments.specs.Opened.{CanBeOpened, IsOpened}
 use Rattle.clog_applied.specs.Filed.{KeepsOthers}
 use Rattle.clog_applied.specs.History.{LoggedLine}
 use Rattle.clog_applied.specs.Opening.{IsRecoveryChange}
@@ -61,10 +61,10 @@ use Rattle.clog_engine.specs.declared.status.Status.{Status}
 use Rattle.clog_engine.specs.declared.status.Status.TheVariants.{OutOfMemory}
 use Rattle.clog_engine.specs.Logged.{
   AppliesLines,
+  AreLogged,
   IsReported,
   IsRun,
   LastsFirst,
-  LeavesSome,
   Turns,
   Wrote,
 }
@@ -166,15 +166,21 @@ ok_at outcome x P is has = subst (λ r. IfOk r P) is has
 
 module _ (options : ApplyOptions) (o : Outside) (ms : List Mutation)
     (told : SameTold o.files o.files_now) (wrote : Wrote o options ms)
-    (others : IfSome o.files (λ before. Told o.files_now (KeepsOthers before))) where
-  partly : LastsFirst o options ms 0 → LeavesSome options ms o
-  partly lasts =
-      inr (inr (record { told = told; wrote = wrote; others = others; lasts = lasts }))
+    (others : IfSome o.files (λ before. Told o.files_now (KeepsOthers before)))
+    (opened : IfSome o.files CanBeOpened) where
+  logged : (least : ℕ) → LastsFirst o options ms least → AreLogged o options ms least
+  logged least lasts = record {
+    told = told;
+    opened = opened;
+    wrote = wrote;
+    others = others;
+    lasts = lasts;
+  }
 
   failed : (result : Result (List ℕ) Status) → result ≡ err OutOfMemory
       → LastsFirst o options ms 0 → AppliesLines options ms o result
   failed result is lasts =
-      subst (AppliesLines options ms o) (sym is) (partly lasts)
+      subst (AppliesLines options ms o) (sym is) (inr (inr (logged 0 lasts)))
 
   -- by what was logged, and how it was told
   pub shares_applied : (pending : PendingReport) (outcome : Result (Vec Receipt) WriteFault)
@@ -193,20 +199,21 @@ module _ (options : ApplyOptions) (o : Outside) (ms : List Mutation)
       let is = so receipts report refl refl in
       subst (AppliesLines options ms o) (sym told_as) (record {
         reported = is.0;
-        logged = record { told = told; wrote = wrote; others = others; lasts = lasts };
+        logged = logged (length ms) lasts;
         run = is.1;
       })
   shares_applied pending (err (fault.Stopped at_open now)) result told_as lasts cause lack so =
-      subst (AppliesLines options ms o) (sym told_as) (cause.3, partly lasts)
+      subst (AppliesLines options ms o) (sym told_as) (cause.3, inr (inr (logged 0 lasts)))
   shares_applied pending (err fault.OutOfMemory) result told_as lasts cause lack so =
       failed result told_as lasts
   shares_applied pending (err fault.Spent) result told_as lasts cause lack so =
       failed result told_as lasts
   shares_applied pending (err (fault.Rows row.AppendGroups n)) result told_as lasts cause lack so =
       let many = lack row.AppendGroups n refl in
-      subst (AppliesLines options ms o) (sym told_as) (many.0, many.1, partly lasts)
+      subst (AppliesLines options ms o) (sym told_as) (many.0, many.1, logged 0 lasts)
   shares_applied pending (err (fault.Rows row.Memtables n)) result told_as lasts cause lack so =
-      subst (AppliesLines options ms o) (sym told_as) (lack row.Memtables n refl, partly lasts)
+      subst (AppliesLines options ms o) (sym told_as)
+      (lack row.Memtables n refl, logged 0 lasts)
   shares_applied pending (err (fault.Rows row.WriteGroups n)) result told_as lasts cause lack so =
       absurd (lack row.WriteGroups n refl)
 

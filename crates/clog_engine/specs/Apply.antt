@@ -58,7 +58,7 @@ pub record IsApplied (o : Outside) (options : ApplyOptions) (report bytes : List
 
 -- ---- the run is refused
 
--- All was good, and the run broke off while the lines were written.
+-- All was good, the folder could be opened, and the run broke off while the lines were written.
 pub record IsPartly (options : ApplyOptions) (o : Outside) : Type 0 where
   pub bytes : List ℕ
   pub taken : TakesAll o.left o.left_now bytes
@@ -103,15 +103,15 @@ ApplyRefuses options (Limit TableFiles most) o =
     × IsLeftAlone o
 ApplyRefuses options (Limit Ids most) o =
     (most ≡ id_limit) × ReadsGood options o × IfSome o.files HasGreatId × IsLeftAlone o
--- a group was wanted behind the last: all was good, the lines are many, and not all of them are
--- written or synced
+-- a group was wanted behind the last: all was good, the folder could be opened, and the lines are
+-- many
 ApplyRefuses options (Groups most) o =
     (most ≡ group_limit) × ReadsToEnd o (MayWantGroups (capacity_of options))
-    × LeavesPart options o
--- a memtable was wanted behind the last of a table: all was good, a table has many updates, and not
--- all lines are written or flushed
+    × IsPartly options o
+-- a memtable was wanted behind the last of a table: all was good, the folder could be opened, and a
+-- table has many updates
 ApplyRefuses options (Memtables most) o =
-    ReadsToEnd o (MayWantMemtables options most) × LeavesPart options o
+    ReadsToEnd o (MayWantMemtables options most) × IsPartly options o
 ApplyRefuses options other o = ⊥
 
 -- a report, or why there is none

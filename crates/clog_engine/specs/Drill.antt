@@ -60,7 +60,7 @@ use Rattle.clog_engine.specs.declared.status.Status.TheVariants.{
   Memtables,
 }
 use Rattle.clog_engine.specs.Limits.{group_limit}
-use Rattle.clog_engine.specs.Logged.{AreApplied, LeavesSome}
+use Rattle.clog_engine.specs.Logged.{AreApplied, AreLogged, LeavesSome}
 use Rattle.clog_engine.specs.Outside.{Outside, IsLeftAlone}
 use Rattle.clog_engine.specs.Planning.{ArePlanned}
 use Rattle.clog_engine.specs.Replaying.{ReplayRefused}
@@ -163,9 +163,9 @@ DrillRefuses lines (Limit TableFiles most) o =
 DrillRefuses lines (Limit Ids most) o =
     (most ≡ id_limit) × IfSome o.files HasGreatId × IsLeftAlone o
 DrillRefuses lines (Groups most) o =
-    (most ≡ group_limit) × (group_limit ≤ 1 + length lines) × LeavesSome drill_options lines o
+    (most ≡ group_limit) × (group_limit ≤ 1 + length lines) × AreLogged o drill_options lines 0
 DrillRefuses lines (Memtables most) o =
-    HasManyUpdates drill_options.flush_at most lines × LeavesSome drill_options lines o
+    HasManyUpdates drill_options.flush_at most lines × AreLogged o drill_options lines 0
 DrillRefuses lines other o = ⊥
 
 -- a report of lines, or why there is none

@@ -45,6 +45,7 @@ use Rattle.clog_crash.specs.Restore.{IsUndamaged}
 use Rattle.clog_folder.specs.Folder.{HasDamage, HasLongSegment}
 use Rattle.clog_segments.specs.Named.{sequence_limit, id_limit}
 use Rattle.clog_segments.specs.Opened.{
+  CanBeOpened,
   HasGreatId,
   HasManyTables,
   IsOpened,
@@ -194,11 +195,12 @@ pub record IsReported (options : ApplyOptions) (mutations : List Mutation) (repo
   pub cells : List (CellKey × Cell)
   pub text : IsReport options.dump (head_with options.receipts receipts) cells mutations report
 
--- The lines of each writer's share came up to some place, of which a crash leaves at least so many.
--- Each file of before that is no segment stands as it was.
+-- The folder could be opened, and the lines of each writer's share came up to some place, of which
+-- a crash leaves at least so many. Each file of before that is no segment stands as it was.
 pub record AreLogged (o : Outside) (options : ApplyOptions) (mutations : List Mutation) (least : ℕ)
     : Type 0 where
   pub told : SameTold o.files o.files_now
+  pub opened : IfSome o.files CanBeOpened
   pub wrote : Wrote o options mutations
   pub others : IfSome o.files (λ before. Told o.files_now (KeepsOthers before))
   pub lasts : LastsFirst o options mutations least
@@ -245,12 +247,13 @@ LinesRefuse options mutations (Limit TableFiles most) o =
     (most ≡ sequence_limit) × IfSome o.files HasManyTables × IsLeftAlone o
 LinesRefuse options mutations (Limit Ids most) o =
     (most ≡ id_limit) × IfSome o.files HasGreatId × IsLeftAlone o
--- a group was wanted behind the last, as it may be for so many lines
+-- a group was wanted behind the last, as it may be for so many lines; the folder could be opened
 LinesRefuse options mutations (Groups most) o =
-    (most ≡ group_limit) × (group_limit ≤ 1 + length mutations) × LeavesSome options mutations o
--- a memtable was wanted behind the last of a table, as it may be where a table has many updates
+    (most ≡ group_limit) × (group_limit ≤ 1 + length mutations) × AreLogged o options mutations 0
+-- a memtable was wanted behind the last of a table, as it may be where a table has many updates;
+-- the folder could be opened
 LinesRefuse options mutations (Memtables most) o =
-    HasManyUpdates options.flush_at most mutations × LeavesSome options mutations o
+    HasManyUpdates options.flush_at most mutations × AreLogged o options mutations 0
 LinesRefuse options mutations other o = ⊥
 
 -- a report of lines that are applied, or why there is none

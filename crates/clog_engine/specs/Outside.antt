@@ -1,5 +1,5 @@
 -- The outside of a run, before it and after it.
-use Rattle.std.specs.Prelude.{ℕ, List, Option}
+use Rattle.std.specs.Prelude.{◌≡◌, ℕ, List, Option}
 use Rattle.std.specs.Io.KnownBytes.{Appends}
 use Rattle.clog_io.specs.declared.clock.Clock.{Ghosts as ClockTells}
 use Rattle.clog_io.specs.declared.sink.Sink.{Ghosts as SinkTells}
@@ -64,10 +64,11 @@ outside_of source disk clock s s_now d d_now c =
 abbrev pub IsUntouched : Outside → Type 0
 IsUntouched o = Unchanged o.files o.files_now o.leaves o.leaves_now
 
--- The same, and so it was at each moment of the run: what a crash then might have left, it might
--- have left before.
+-- The same, and the disk has made no change; and so it was at each moment of the run: what a crash
+-- then might have left, it might have left before.
 pub record IsLeftAlone (o : Outside) : Type 0 where
   pub still : IsUntouched o
+  pub changes : o.changes_now ≡ o.changes
   pub meanwhile : (image : Files) → o.since image → IsImage o.leaves image
 
 -- the sink: what it holds, where it tells it, and its faults

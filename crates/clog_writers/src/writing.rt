@@ -110,7 +110,7 @@ fn disks_read_now<D: Disk>(_store: &Store<D>)
 /// line that lies in none, and all segments go. Each that goes gets its archive name first where
 /// the store archives. The receipts are in the order of the lines. The gate is told how far each
 /// commit is. The first fault of a disk, a limit or want of memory that a writer is answered ends
-/// the run: each other writer stops behind its commit in hand.
+/// the run: each other writer stops behind its commit in hand (no clause says so).
 ///
 /// Whatever is answered, the appends among the disk's further changes have brought segments, and no
 /// other names have come than those of these, their archive names and table files. Without

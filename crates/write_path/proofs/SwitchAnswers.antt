@@ -15,11 +15,8 @@ use Rattle.std.proofs.Common.{
   arith,
 }
 use Rattle.clog_base.specs.declared.cell.Table.{Table}
-use Rattle.op_core.specs.declared.count.Order.TheVariants.{Write, Append}
-use Rattle.path_core.specs.declared.event.Cursor.TheVariants.{
-  OldestLive,
-  Stopped as StoppedCursor,
-}
+use Rattle.op_core.specs.declared.count.Order.TheVariants.{Write}
+use Rattle.path_core.specs.declared.event.Cursor.TheVariants.{OldestLive}
 use Rattle.path_core.specs.declared.event.Event.TheVariants.{Look}
 use Rattle.path_core.specs.declared.event.Place.TheVariants.{
   Current,
@@ -127,15 +124,7 @@ is_behind w t v u after (Rows WriteGroups made) steps Q had I = (
     free_after t steps Q.made.steps I.2.3,
   ),
 )
-is_behind w t v u after (Rows AppendGroups made) steps Q had I = (
-  I.0,
-  I.1,
-  (
-    I.2.0,
-    found_after (Current Append) I.0 steps Q.made.steps I.2.1,
-    found_after (CursorWord StoppedCursor) 0 steps Q.made.steps I.2.2,
-  ),
-)
+is_behind w t v u after (Rows AppendGroups made) steps Q had I = absurd I
 
 pub behind : (w z t : ℕ) (v u after : View) (a : Switch) → z ≡ w → QuietSteps w t v u → HadTurn a
     → Switches z t u a after → Switches w t v a after

@@ -65,7 +65,7 @@ FindsLeft t m steps = SwitchesNone steps
 -- What is so behind an answer to seat w, which made these steps, for a table t. Empty and Left: the
 -- bound was set in this call, at or above each write of the seat's list; where Empty, the seat saw
 -- the boxes of all seats and nothing of the memtable in them, and retired it. Busy: the seat only
--- looked, and found the turn's word so.
+-- looked, and found the turn's word so. Rows: a word that a switch itself wants; it makes no sync.
 abbrev pub IsSwitch : ℕ → ℕ → View → Switch → List OwnStep → View → Type 0
 IsSwitch w t v (Empty key) steps after =
     (m : ℕ) × SetsBound w t m key.0 steps after × RetiresEmpty w t m v after
@@ -74,8 +74,11 @@ IsSwitch w t v (Waits m) steps after = FindsLeft t m steps
 IsSwitch w t v (Busy found) steps after = (found ≡ 1)
     × FoundSince (length v.trail) (TurnWord (Flush (record { 0 = t }))) found after.trail
     × (acts after.trail ≡ acts v.trail)
-IsSwitch w t v (Rows row made) steps after =
-    (last : ℕ) × (suc last ≡ made) × FindsLast row t last steps
+IsSwitch w t v (Rows Memtables made) steps after =
+    (last : ℕ) × (suc last ≡ made) × FindsLast Memtables t last steps
+IsSwitch w t v (Rows WriteGroups made) steps after =
+    (last : ℕ) × (suc last ≡ made) × FindsLast WriteGroups t last steps
+IsSwitch w t v (Rows AppendGroups made) steps after = ⊥
 
 -- How many memtables were opened at most behind an answer: one where the newest was switched, else
 -- none.

@@ -25,6 +25,7 @@ use Rattle.clog_engine.specs.Report.{IsReport, head_with}
 use Rattle.clog_engine.specs.Request.{AreSizesOf}
 use Rattle.clog_engine.proofs.Applied.{folder_refuses, left_closed, not_opened}
 use Rattle.clog_engine.proofs.Opened.{
+  could_open,
   keeps_all,
   lasts_first,
   left_alone,
@@ -116,10 +117,12 @@ returns-clause-applies g c left left_now f h ms planned =
     let stays = others g.D.Disk g.C.Clock left left_now f h start looked at only still opened
     c.now_ms-opened_ms.result base opening.opens opening.any_moment opening.recovers now done.told done.stay
     in
+    let could = could_open g.D.Disk g.C.Clock left left_now f h start looked at only still opened
+    c.now_ms-opened_ms.result base opening.opens opening.any_moment opening.recovers now in
     shares_applied options o ms
     (told_then (g.D.Disk.files start) (g.D.Disk.files opened) (g.D.Disk.files now)
     (subst (λ (files : Option Files). SameTold files (g.D.Disk.files opened)) still.same.files
-    opening.told) done.told) has_written stays pending outcome c.told.result
+    opening.told) done.told) has_written stays could pending outcome c.told.result
     c.told.ensures lasts
     (subst (λ (n : ℕ). HasShareCause n (g.D.Disk.faults now) outcome)
     (opening.quiet ∙ c.in-Ok.ensures.quiet) done.cause)
