@@ -3,8 +3,8 @@
 # lines of a writer: one writer with 10,000 to 1,000,000 lines, then 2, 4 and 64 writers, and one
 # and four that never sync. Each row has the time to prepare its writes beside it, which as many
 # threads do before the first commit. And how many commits in batch mode one sync of a real folder
-# makes lasting, for 1, 8 and 64 writers. Needs a built program (`rt run` in crates/path_threads).
-# No part of the gate.
+# makes lasting, for 1, 8 and 64 writers, and for 8 writers with 3,200 to 100,000 lines. Needs a
+# built program (`rt run` in crates/path_threads). No part of the gate.
 set -e
 top=$(cd "$(dirname "$0")/.." && pwd)
 program=$top/crates/path_threads/out/path_threads

@@ -86,8 +86,8 @@ fn outcome_of<
 /// With `--sync batch` a writer waits for the sync of each line before it logs its next one, so no
 /// section of a segment holds two lines of one writer, and where a sync is refused it logs no more.
 /// The first fault ends the run: each other writer stops behind its line in hand (no clause says
-/// so). In periodic mode a writer has the log synced behind a line at which the clock tells that the
-/// period has passed since it last had.
+/// so). In periodic mode a writer has the log synced behind a line at which the clock tells that
+/// the period has passed since it last had.
 ///
 /// Of `replay` it means that the report has the counts of the folder and what it restores to, and
 /// that without `--ignore-errors` nothing of the folder is damaged; of `scan` that the report tells
