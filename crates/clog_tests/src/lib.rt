@@ -1,5 +1,5 @@
-//! Tests of the engine and of the crates right below it, through their public calls. They stand in a
-//! crate of their own, since a crate that has tests is proved a second time with them.
+//! Tests of the engine, and of a path over a store, through their public calls. They stand in a crate
+//! of their own, since a crate that has tests is proved a second time with them.
 #![tactic(auto)]
 
 #[cfg(test)]
@@ -11,14 +11,6 @@ mod engine;
 #[cfg(test)]
 mod halting;
 #[cfg(test)]
-mod lines;
-#[cfg(test)]
-mod logged;
-#[cfg(test)]
 mod over_a_store;
 #[cfg(test)]
 mod pair;
-#[cfg(test)]
-mod payloads;
-#[cfg(test)]
-mod writers;

@@ -2,7 +2,6 @@
 //! and which files its disk has once it is closed. The places were worked out by hand from the sizes
 //! of entries and markers.
 use crate::alone::{Alone, payload_of};
-use crate::payloads::DELETION;
 use clog_base::{Key, Position, Table, segment_name, table_name};
 use clog_disk::{Disk, MemDisk};
 use std::alloc::Global;
@@ -13,6 +12,9 @@ use sync_core::SyncCore;
 use write_path::{Commit, Flush, Receipt, SyncFault};
 
 const PERIODIC: SyncCore = SyncCore::Periodic { period_ms: 10_000 };
+
+// Key `ab`, one update: table 0, column `cd`, timestamp 5, a deletion: 20 bytes.
+const DELETION: &[u8] = b"\x00\x02ab\x00\x01\x00\x00\x02cd\x00\x00\x00\x00\x00\x00\x00\x05\x00";
 
 // Where a key is in the log.
 fn place_of(key: Key) -> (u64, u32) {
