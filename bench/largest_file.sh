@@ -1,8 +1,8 @@
 #!/bin/sh
 # Time and peak memory of `apply` for the largest mutation file that is taken, 64 MiB of small lines
 # with distinct keys: into segments of 32 MiB and of 256 KiB, with a dump, and drained to 16 tables;
-# of the recovery of what the first left; and of lines of one table, and of one key. Each is one run.
-# Needs GNU time and a built program. No part of the gate.
+# of the recovery of what the first left; and of lines of one table, and of one key. Each is one
+# run. Needs GNU time and a built program. No part of the gate.
 set -e
 top=$(cd "$(dirname "$0")/.." && pwd)
 . "$top/bench/setup.sh"

@@ -1,7 +1,7 @@
 #!/bin/sh
-# Time and peak memory of a recovery: `apply` with an empty file over a folder that holds one segment
-# of nearly 32 MiB, the least of three runs, for few large entries and for 560,000 small ones with
-# distinct keys. Needs GNU time and a built program. No part of the gate.
+# Time and peak memory of a recovery: `apply` with an empty file over a folder that holds one
+# segment of nearly 32 MiB, the least of three runs, for few large entries and for 560,000 small
+# ones with distinct keys. Needs GNU time and a built program. No part of the gate.
 set -e
 top=$(cd "$(dirname "$0")/.." && pwd)
 . "$top/bench/setup.sh"
