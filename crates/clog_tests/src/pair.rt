@@ -6,7 +6,7 @@ ghost use Rattle.clog_base.specs.declared.sizes.Sizes.{Sizes};
 ghost use Rattle.clog_mutation.specs.declared.mutation.Mutation.{Mutation};
 ghost use Rattle.path_core.specs.Keeper.{IsFresh};
 ghost use Rattle.path_table.specs.Members.{IsOf};
-ghost use Rattle.write_path.specs.Tries.{Stays};
+ghost use Rattle.path_flush.specs.Seats.{Stays};
 ghost use Rattle.write_path.specs.Writes.{IsPrepared};
 
 use crate::alone::prepared;

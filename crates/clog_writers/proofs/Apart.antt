@@ -38,7 +38,7 @@ use Rattle.path_table.specs.declared.trying.PathSeat.{PathSeat}
 use Rattle.path_table.specs.Members.{view_of}
 use Rattle.clog_closing.specs.Gaps.{StandApart}
 use Rattle.write_path.specs.Closed.{IsOutcome}
-use Rattle.write_path.specs.Ends.{writes_of}
+use Rattle.path_flush.specs.OwnWrites.{writes_of}
 use Rattle.write_path.specs.Sealed.{AreSealedApart, IsSealed}
 use Rattle.clog_writers.specs.declared.fault.WriteFault.{WriteFault}
 use Rattle.clog_writers.specs.Crews.{HaveEnded}

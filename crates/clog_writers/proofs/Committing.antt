@@ -74,15 +74,15 @@ use Rattle.write_path.specs.declared.commit.SyncFault.TheVariants.{
   Rows as NoRows,
 }
 use Rattle.write_path.specs.declared.prepared.Prepared.{Prepared}
-use Rattle.write_path.specs.declared.switch.Row.{Row}
-use Rattle.write_path.specs.declared.switch.Row.TheVariants.{
+use Rattle.path_flush.specs.declared.switch_answer.Row.{Row}
+use Rattle.path_flush.specs.declared.switch_answer.Row.TheVariants.{
   AppendGroups,
   Memtables,
   WriteGroups,
 }
 use Rattle.write_path.specs.Commits.{HasNoRoom, IsLogged}
-use Rattle.write_path.specs.Ends.{writes_of}
-use Rattle.write_path.specs.Grown.{HasGrown}
+use Rattle.path_flush.specs.OwnWrites.{writes_of}
+use Rattle.path_flush.specs.Grown.{HasGrown}
 use Rattle.write_path.specs.Receipts.{HasReceipt, IsCommitted}
 use Rattle.write_path.specs.Sealed.{FoundWhileLast, IsSealed}
 use Rattle.write_path.specs.Writes.{IsNoteOf, IsPrepared}

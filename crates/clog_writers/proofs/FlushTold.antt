@@ -51,19 +51,19 @@ use Rattle.path_rule.specs.Finds.{Finds}
 use Rattle.path_rule.proofs.seats.Answering.{found_after}
 use Rattle.path_table.specs.declared.trying.PathSeat.{PathSeat}
 use Rattle.path_table.specs.Members.{view_of}
-use Rattle.write_path.specs.declared.flush.Flush.{Flush}
-use Rattle.write_path.specs.declared.flush.Flush.TheVariants as flush
-use Rattle.write_path.specs.declared.switch.Row.{Row}
-use Rattle.write_path.specs.declared.switch.Row.TheVariants.{
+use Rattle.path_flush.specs.declared.flush_answer.Flush.{Flush}
+use Rattle.path_flush.specs.declared.flush_answer.Flush.TheVariants as flush
+use Rattle.path_flush.specs.declared.switch_answer.Row.{Row}
+use Rattle.path_flush.specs.declared.switch_answer.Row.TheVariants.{
   AppendGroups,
   Memtables,
   WriteGroups,
 }
 use Rattle.write_path.specs.ClosedFiles.{HasRetired}
-use Rattle.write_path.specs.Ends.{writes_of}
-use Rattle.write_path.specs.Flushed.{Flushes, opened_by}
-use Rattle.write_path.specs.Grown.{HasGrown}
-use Rattle.write_path.specs.Switched.{FindsLast}
+use Rattle.path_flush.specs.OwnWrites.{writes_of}
+use Rattle.path_flush.specs.Flushed.{Flushes, opened_by}
+use Rattle.path_flush.specs.Grown.{HasGrown}
+use Rattle.path_flush.specs.Switched.{FindsLast}
 use Rattle.write_path.proofs.AnswerPromises.{by_answer}
 use Rattle.clog_writers.specs.declared.fault.WriteFault.TheVariants.{
   OutOfMemory,

@@ -20,8 +20,8 @@ use Rattle.write_path.specs.declared.commit.Commit.TheVariants.{
   Unsynced,
   Spent as NoRoom,
 }
-use Rattle.write_path.specs.declared.flush.Flush.{Flush}
-use Rattle.write_path.specs.declared.flush.Flush.TheVariants.{
+use Rattle.path_flush.specs.declared.flush_answer.Flush.{Flush}
+use Rattle.path_flush.specs.declared.flush_answer.Flush.TheVariants.{
   Flushed,
   Empty,
   Busy,
@@ -30,19 +30,19 @@ use Rattle.write_path.specs.declared.flush.Flush.TheVariants.{
   OutOfMemory,
 }
 use Rattle.write_path.specs.declared.prepared.Prepared.{Prepared}
-use Rattle.write_path.specs.declared.switch.Row.TheVariants.{
+use Rattle.path_flush.specs.declared.switch_answer.Row.TheVariants.{
   AppendGroups,
   Memtables,
   WriteGroups,
 }
 use Rattle.write_path.specs.Closed.{FindsNewestTo, IsOutcome, all_opened}
-use Rattle.write_path.specs.Flushed.{Flushes, opened_by}
-use Rattle.write_path.specs.FlushSteps.{SwitchesNone}
-use Rattle.write_path.specs.Grown.{HasGrown}
+use Rattle.path_flush.specs.Flushed.{Flushes, opened_by}
+use Rattle.path_flush.specs.FlushSteps.{SwitchesNone}
+use Rattle.path_flush.specs.Grown.{HasGrown}
 use Rattle.write_path.specs.Receipts.{IsCommitted}
 use Rattle.write_path.specs.Syncs.{Syncs}
-use Rattle.write_path.proofs.StepsOpen.{none_opened, opens_both, others_open, round_opens}
-use Rattle.write_path.specs.Opens.{opens}
+use Rattle.path_flush.proofs.StepsOpen.{none_opened, opens_both, others_open, round_opens}
+use Rattle.path_flush.specs.Opens.{opens}
 use Rattle.clog_writers.specs.Tallied.{OpensNone}
 
 -- steps that open none, in front of others

@@ -32,13 +32,13 @@ use Rattle.path_rule.specs.declared.view.OwnStep.{OwnStep}
 use Rattle.path_rule.specs.declared.view.View.{View}
 use Rattle.path_table.specs.declared.trying.PathSeat.{PathSeat}
 use Rattle.path_table.specs.Members.{view_of}
-use Rattle.write_path.specs.declared.flush.Flush.{Flush}
+use Rattle.path_flush.specs.declared.flush_answer.Flush.{Flush}
 use Rattle.write_path.specs.declared.prepared.Prepared.{Prepared}
-use Rattle.write_path.specs.Ends.{writes_of}
-use Rattle.write_path.specs.Flushed.{Flushes}
+use Rattle.path_flush.specs.OwnWrites.{writes_of}
+use Rattle.path_flush.specs.Flushed.{Flushes}
 use Rattle.write_path.specs.Writes.{IsPrepared}
 use Rattle.clog_writers.specs.declared.fault.WriteFault.{WriteFault}
-use Rattle.write_path.specs.Opens.{opens}
+use Rattle.path_flush.specs.Opens.{opens}
 use Rattle.clog_writers.specs.Shares.{
   AddsWrite,
   AreWritesOf,

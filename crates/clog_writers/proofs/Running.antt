@@ -46,8 +46,8 @@ use Rattle.path_table.specs.declared.trying.PathSeat.{PathSeat}
 use Rattle.clog_closing.specs.Beside.{HasGoodDeeds}
 use Rattle.clog_closing.specs.Drained.{HasNoDeeds}
 use Rattle.clog_closing.proofs.Good.{good_of_none}
-use Rattle.write_path.specs.declared.switch.Row.{Row}
-use Rattle.write_path.specs.declared.switch.Row.TheVariants.{
+use Rattle.path_flush.specs.declared.switch_answer.Row.{Row}
+use Rattle.path_flush.specs.declared.switch_answer.Row.TheVariants.{
   AppendGroups,
   Memtables,
   WriteGroups,

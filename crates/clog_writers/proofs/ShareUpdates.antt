@@ -42,7 +42,7 @@ use Rattle.path_table.specs.Members.{view_of}
 use Rattle.clog_writers.specs.declared.fault.WriteFault.{WriteFault}
 use Rattle.clog_writers.specs.Crews.{HaveEnded}
 use Rattle.write_path.specs.Closed.{all_opened}
-use Rattle.write_path.specs.Opens.{opens}
+use Rattle.path_flush.specs.Opens.{opens}
 
 -- ---- shares
 

@@ -50,19 +50,19 @@ use Rattle.path_rule.specs.declared.view.PathSize.{PathSize}
 use Rattle.path_rule.specs.declared.view.View.{View}
 use Rattle.path_table.specs.declared.trying.PathSeat.{PathSeat}
 use Rattle.path_table.specs.Members.{view_of}
-use Rattle.write_path.specs.declared.flush.Flush.{Flush}
+use Rattle.path_flush.specs.declared.flush_answer.Flush.{Flush}
 use Rattle.write_path.specs.declared.prepared.Prepared.{Prepared}
 use Rattle.write_path.specs.ClosedFiles.{HasRetired}
 use Rattle.write_path.specs.Commits.{KeepsList}
-use Rattle.write_path.specs.Ends.{writes_of}
-use Rattle.write_path.specs.Flushed.{Flushes}
-use Rattle.write_path.specs.Grown.{HasGrown}
+use Rattle.path_flush.specs.OwnWrites.{writes_of}
+use Rattle.path_flush.specs.Flushed.{Flushes}
+use Rattle.path_flush.specs.Grown.{HasGrown}
 use Rattle.write_path.specs.Writes.{IsPrepared}
 use Rattle.write_path.proofs.FlushPromises.{still_flushed}
 use Rattle.clog_writers.specs.declared.tally.LineCounts.{LineCounts}
 use Rattle.clog_writers.specs.declared.tally.UpdateTally.{UpdateTally}
 use Rattle.clog_writers.specs.Shares.{AddsWrite, is_finished, refusal_by}
-use Rattle.write_path.specs.Opens.{opens}
+use Rattle.path_flush.specs.Opens.{opens}
 use Rattle.clog_writers.specs.Tallied.{
   ArePaid,
   HasFlushedAll,

@@ -43,9 +43,10 @@ use Rattle.write_path.specs.declared.commit.Commit.TheVariants.{
   Spent as NoRoom,
 }
 use Rattle.write_path.specs.declared.prepared.Prepared.{Prepared}
-use Rattle.write_path.specs.declared.switch.Row.TheVariants.{AppendGroups}
-use Rattle.write_path.specs.Ends.{IsLast, writes_of}
-use Rattle.write_path.specs.Grown.{HasGrown}
+use Rattle.path_flush.specs.declared.switch_answer.Row.TheVariants.{AppendGroups}
+use Rattle.path_flush.specs.OwnWrites.{writes_of}
+use Rattle.write_path.specs.Ends.{IsLast}
+use Rattle.path_flush.specs.Grown.{HasGrown}
 use Rattle.write_path.specs.Receipts.{IsCommitted}
 use Rattle.write_path.specs.Syncs.{Syncs}
 use Rattle.write_path.proofs.Growing.{both}

@@ -28,7 +28,7 @@ use Rattle.path_core.specs.declared.event.Place.TheVariants.{TurnWord}
 use Rattle.path_core.specs.declared.event.Turn.TheVariants.{Flush as FlushTurn}
 use Rattle.path_rule.specs.declared.view.OwnStep.{OwnStep}
 use Rattle.path_rule.specs.Calls.{FoundSince}
-use Rattle.write_path.specs.Grown.{HasGrown}
+use Rattle.path_flush.specs.Grown.{HasGrown}
 use Rattle.write_path.proofs.Rooms.{found_since}
 use Rattle.clog_writers.specs.declared.tally.UpdateTally.{UpdateTally}
 use Rattle.clog_writers.specs.Tallies.{IsTried, MayTry}

@@ -35,8 +35,8 @@ use Rattle.path_rule.specs.Layout.{group_rows, memtable_rows}
 use Rattle.path_rule.specs.Limits.{most_memtables}
 use Rattle.clog_closing.specs.Beside.{HasGoodDeeds}
 use Rattle.clog_closing.specs.Drained.{HasNoDeeds}
-use Rattle.write_path.specs.declared.switch.Row.{Row}
-use Rattle.write_path.specs.declared.switch.Row.TheVariants.{
+use Rattle.path_flush.specs.declared.switch_answer.Row.{Row}
+use Rattle.path_flush.specs.declared.switch_answer.Row.TheVariants.{
   AppendGroups,
   Memtables,
   WriteGroups,

@@ -5,7 +5,7 @@ use Rattle.path_core.specs.declared.note.EntryNote.{EntryNote}
 use Rattle.path_rule.specs.declared.view.OwnStep.{OwnStep}
 use Rattle.path_table.specs.declared.trying.PathSeat.{PathSeat}
 use Rattle.path_table.specs.Members.{view_of}
-use Rattle.write_path.specs.Ends.{writes_of}
+use Rattle.path_flush.specs.OwnWrites.{writes_of}
 use Rattle.write_path.specs.Sealed.{IsSealed}
 use Rattle.clog_writers.specs.declared.worker.Worker.{Worker}
 

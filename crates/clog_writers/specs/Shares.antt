@@ -40,12 +40,12 @@ use Rattle.write_path.specs.declared.commit.SyncFault.TheVariants.{
   OutOfMemory as NoMemory,
   Rows as NoRows,
 }
-use Rattle.write_path.specs.declared.flush.Flush.{Flush}
-use Rattle.write_path.specs.declared.flush.Flush.TheVariants as flush
+use Rattle.path_flush.specs.declared.flush_answer.Flush.{Flush}
+use Rattle.path_flush.specs.declared.flush_answer.Flush.TheVariants as flush
 use Rattle.write_path.specs.declared.prepared.Prepared.{Prepared}
-use Rattle.write_path.specs.declared.switch.Row.TheVariants.{AppendGroups}
+use Rattle.path_flush.specs.declared.switch_answer.Row.TheVariants.{AppendGroups}
 use Rattle.write_path.specs.Commits.{WritesEndBelow}
-use Rattle.write_path.specs.Ends.{writes_of}
+use Rattle.path_flush.specs.OwnWrites.{writes_of}
 use Rattle.write_path.specs.Writes.{IsNoteOf, IsPrepared}
 use Rattle.clog_writers.specs.declared.fault.WriteFault.{WriteFault}
 use Rattle.clog_writers.specs.declared.fault.WriteFault.TheVariants.{

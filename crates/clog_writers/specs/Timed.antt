@@ -11,8 +11,9 @@ use Rattle.path_rule.specs.Rule.{event_of}
 use Rattle.path_table.specs.declared.trying.PathSeat.{PathSeat}
 use Rattle.path_table.specs.Members.{part_of, view_of}
 use Rattle.write_path.specs.Commits.{WritesEndBelow}
-use Rattle.write_path.specs.Ends.{IsLast, writes_of}
-use Rattle.write_path.specs.Grown.{HasGrown}
+use Rattle.path_flush.specs.OwnWrites.{writes_of}
+use Rattle.write_path.specs.Ends.{IsLast}
+use Rattle.path_flush.specs.Grown.{HasGrown}
 use Rattle.write_path.specs.Sealed.{IsSealed}
 use Rattle.clog_writers.specs.declared.fault.WriteFault.{WriteFault}
 use Rattle.clog_writers.specs.declared.worker.Worker.{Worker}

@@ -35,7 +35,7 @@ ghost use Rattle.clog_writers.specs.declared.fault.WriteFault.TheVariants.{
 };
 ghost use Rattle.clog_writers.specs.Settled.{Settles};
 ghost use Rattle.clog_writers.specs.Written.{refused_as};
-ghost use Rattle.write_path.specs.declared.switch.Row.{Row};
+ghost use Rattle.path_flush.specs.declared.switch_answer.Row.{Row};
 
 use crate::fault::WriteFault;
 use clog_base::{Key, OutOfMemory};

@@ -14,7 +14,7 @@ ghost use Rattle.clog_writers.specs.Worked.{
   three_lines,
 };
 ghost use Rattle.clog_writers.specs.WorkedTally.{flushed_one, logged_one, the_note};
-ghost use Rattle.write_path.specs.Ends.{writes_of};
+ghost use Rattle.path_flush.specs.OwnWrites.{writes_of};
 
 /// A line may come before one of another writer, and not before an earlier one of its own, nor from
 /// another writer than its own.

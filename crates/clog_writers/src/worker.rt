@@ -12,8 +12,8 @@ ghost use Rattle.clog_writers.specs.Timed.{TimesWrite};
 ghost use Rattle.clog_writers.specs.Shares.{AddsWrite, MayAddWrite, fault_of, refusal_in};
 ghost use Rattle.path_table.specs.Members.{IsOf, view_of};
 ghost use Rattle.sync_core.specs.declared.SyncCore.TheVariants.{Batch, Periodic};
-ghost use Rattle.write_path.specs.Grown.{HasGrown};
-ghost use Rattle.write_path.specs.Tries.{Stays};
+ghost use Rattle.path_flush.specs.Grown.{HasGrown};
+ghost use Rattle.path_flush.specs.Seats.{Stays};
 ghost use Rattle.write_path.specs.Writes.{IsPrepared};
 
 use crate::fault::WriteFault;

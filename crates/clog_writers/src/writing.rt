@@ -35,7 +35,7 @@ ghost use Rattle.clog_writers.specs.declared.fault.WriteFault.TheVariants.{
   Stopped,
 };
 ghost use Rattle.clog_writers.specs.Logged.{IsLack};
-ghost use Rattle.write_path.specs.declared.switch.Row.{Row as RowOf};
+ghost use Rattle.path_flush.specs.declared.switch_answer.Row.{Row as RowOf};
 ghost use Rattle.clog_writers.specs.Left.{LeavesShares, WritesShares, least_of};
 ghost use Rattle.clog_writers.specs.Planned.{IsPlanFor};
 ghost use Rattle.clog_writers.specs.Written.{

@@ -5,7 +5,7 @@ ghost use Rattle.path_core.specs.Parts.{touches};
 ghost use Rattle.path_table.specs.Members.{IsOf};
 ghost use Rattle.write_path.specs.Applies.{HoldsUpdates, IsAppliedBelow, IsUnappliedFrom};
 ghost use Rattle.write_path.specs.Ends.{IsUntriedFrom, IsWriteStill};
-ghost use Rattle.write_path.specs.Tries.{Stays};
+ghost use Rattle.path_flush.specs.Seats.{Stays};
 ghost use Rattle.write_path.specs.Writes.{IsPrepared};
 
 use crate::commits::{TWO_TABLES, one_seat, place, place_of, prepared};

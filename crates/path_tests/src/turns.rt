@@ -4,7 +4,7 @@ ghost use Rattle.clog_base.specs.declared.cell.Table.{Table};
 ghost use Rattle.path_core.specs.declared.event.Turn.TheVariants.{Flush};
 ghost use Rattle.path_core.specs.Keeper.{IsFresh};
 ghost use Rattle.path_table.specs.Members.{IsOf};
-ghost use Rattle.write_path.specs.Tries.{Stays};
+ghost use Rattle.path_flush.specs.Seats.{Stays};
 
 use clog_base::{Sizes, Table};
 use path_core::{Keeper, Order, Turn};

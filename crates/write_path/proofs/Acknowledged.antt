@@ -20,14 +20,15 @@ use Rattle.write_path.specs.declared.commit.Receipt.{Receipt}
 use Rattle.write_path.specs.declared.commit.SyncFault.TheVariants.{Stopped, OutOfMemory, Rows}
 use Rattle.write_path.specs.declared.prepared.Prepared.{Prepared}
 use Rattle.write_path.specs.Commits.{IsLogged}
-use Rattle.write_path.specs.Ends.{writes_of, IsLast, IsListed}
-use Rattle.write_path.specs.Grown.{HasGrown}
+use Rattle.path_flush.specs.OwnWrites.{writes_of}
+use Rattle.write_path.specs.Ends.{IsLast, IsListed}
+use Rattle.path_flush.specs.Grown.{HasGrown}
 use Rattle.write_path.specs.Receipts.{Acknowledges, HasReceipt, IsCommitted, IsLineOf}
 use Rattle.write_path.specs.Syncs.{CoversList}
 use Rattle.write_path.specs.Unretired.{GrowsUnretired}
 use Rattle.write_path.proofs.Growing.{both}
 use Rattle.write_path.proofs.Sealing.{found_in, stays_last}
-use Rattle.write_path.proofs.SwitchGoes.{kept_both, none_both, round_kept, round_none}
+use Rattle.path_flush.proofs.SwitchGoes.{kept_both, none_both, round_kept, round_none}
 
 -- A synced key that covers a list covers the list's newest write.
 pub reached : (w s start end tables : ℕ) (before : List OwnStep) (p : Prepared) (v : View)

@@ -38,8 +38,8 @@ use Rattle.path_rule.specs.FindsBounds.{FindsFinal, Retires as RetiresOne}
 use Rattle.path_rule.proofs.seats.Answering.{found_before}
 use Rattle.path_table.specs.declared.trying.PathSeat.{PathSeat}
 use Rattle.path_table.specs.Members.{view_of}
-use Rattle.write_path.specs.declared.flush.Flush.{Flush}
-use Rattle.write_path.specs.declared.flush.Flush.TheVariants.{
+use Rattle.path_flush.specs.declared.flush_answer.Flush.{Flush}
+use Rattle.path_flush.specs.declared.flush_answer.Flush.TheVariants.{
   Flushed,
   Empty,
   Busy,
@@ -49,12 +49,12 @@ use Rattle.write_path.specs.declared.flush.Flush.TheVariants.{
 }
 use Rattle.write_path.specs.ClosedFiles.{HasRetired}
 use Rattle.write_path.specs.Closed.{IsOutcome}
-use Rattle.write_path.specs.Ends.{writes_of}
-use Rattle.write_path.specs.Flushed.{Flushes}
-use Rattle.write_path.specs.FlushSteps.{Finalises, FlushSteps, Retires, retiring}
+use Rattle.path_flush.specs.OwnWrites.{writes_of}
+use Rattle.path_flush.specs.Flushed.{Flushes}
+use Rattle.path_flush.specs.FlushSteps.{Finalises, FlushSteps, Retires, retiring}
 use Rattle.write_path.specs.Promised.{HasFileFrom, HasVoid, IsUpTo, WasFlushed}
-use Rattle.write_path.proofs.FilingGoes.{one_older}
-use Rattle.write_path.proofs.FinalKeys.{final_finds}
+use Rattle.path_flush.proofs.FilingGoes.{one_older}
+use Rattle.path_flush.proofs.FinalKeys.{final_finds}
 use Rattle.write_path.proofs.FlushPromises.{flushed_filed}
 use Rattle.write_path.proofs.RetirePromises.{emptied_kept, final_kept, given_kept}
 

@@ -51,13 +51,7 @@ use Rattle.write_path.specs.Applies.{
   IsAppliedBelow,
   IsUnappliedFrom,
 }
-use Rattle.write_path.specs.Ends.{
-  put_since,
-  AreTries,
-  IsSameWrite,
-  IsUntriedFrom,
-  IsWriteStill,
-}
+use Rattle.write_path.specs.Ends.{put_since, AreTries, IsSameWrite, IsUntriedFrom, IsWriteStill}
 use Rattle.write_path.proofs.PlacedAt.{are_both, untried_past}
 use Rattle.write_path.proofs.SmallSets.{bit_below}
 

@@ -9,8 +9,8 @@ use Rattle.path_rule.specs.Calls.{Did}
 use Rattle.path_rule.specs.Rounds.{WroteBelow}
 use Rattle.path_rule.proofs.log.OwnWrites.{below_log, wrote_below}
 use Rattle.write_path.specs.Commits.{WritesEndBelow}
-use Rattle.write_path.specs.Ends.{writes_of}
-use Rattle.write_path.proofs.SyncLists.{list_below}
+use Rattle.path_flush.specs.OwnWrites.{writes_of}
+use Rattle.path_flush.proofs.ListBelow.{list_below}
 
 -- an entry begins at the log key or above
 starts_above : (capacity key bytes : ℕ) → key ≤ entry_start capacity key bytes

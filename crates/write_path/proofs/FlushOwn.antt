@@ -22,7 +22,7 @@ use Rattle.path_core.specs.declared.event.Event.TheVariants.{
 use Rattle.path_rule.specs.declared.view.OwnStep.{OwnStep}
 use Rattle.path_rule.specs.declared.view.View.{View}
 use Rattle.path_rule.specs.FindsBounds.{Retires, RetiresBy}
-use Rattle.write_path.specs.FlushSteps.{
+use Rattle.path_flush.specs.FlushSteps.{
   AreFlushSteps,
   Finalises,
   FinalisesBy,

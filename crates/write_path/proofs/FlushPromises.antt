@@ -37,9 +37,9 @@ use Rattle.path_table.specs.declared.trying.PathSeat.{PathSeat}
 use Rattle.path_table.specs.Members.{view_of}
 use Rattle.write_path.specs.ClosedFiles.{CoversFlushed, HasRetired}
 use Rattle.write_path.specs.Closed.{IsOutcome}
-use Rattle.write_path.specs.Ends.{writes_of}
+use Rattle.path_flush.specs.OwnWrites.{writes_of}
 use Rattle.write_path.specs.FlushedRows.{file_to, flushed_at}
-use Rattle.write_path.specs.Grown.{HasGrown}
+use Rattle.path_flush.specs.Grown.{HasGrown}
 use Rattle.write_path.specs.SwitchedRows.{switched_at}
 
 -- ---- on a trail that has grown

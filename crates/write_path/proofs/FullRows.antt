@@ -14,13 +14,13 @@ use Rattle.path_rule.specs.Layout.{memtable_rows}
 use Rattle.path_rule.proofs.seats.Answering.{found_after, found_before}
 use Rattle.path_table.specs.declared.trying.PathSeat.{PathSeat}
 use Rattle.path_table.specs.Members.{view_of}
-use Rattle.write_path.specs.declared.flush.Flush.TheVariants.{Rows as FlushRows}
-use Rattle.write_path.specs.declared.switch.Row.TheVariants.{Memtables}
-use Rattle.write_path.specs.declared.switch.Switch.TheVariants.{Rows as SwitchRows}
+use Rattle.path_flush.specs.declared.flush_answer.Flush.TheVariants.{Rows as FlushRows}
+use Rattle.path_flush.specs.declared.switch_answer.Row.TheVariants.{Memtables}
+use Rattle.path_flush.specs.declared.switch_answer.Switch.TheVariants.{Rows as SwitchRows}
 use Rattle.write_path.specs.Closed.{FindsNewestTo, IsOutcome, all_opened}
-use Rattle.write_path.specs.Grown.{HasGrown}
+use Rattle.path_flush.specs.Grown.{HasGrown}
 use Rattle.write_path.specs.Promised.{WasFlushed}
-use Rattle.write_path.specs.Switched.{Switches}
+use Rattle.path_flush.specs.Switched.{Switches}
 
 module _ {K : Type 0} (size : PathSize) (seats : List (PathSeat K)) (end : ℕ) (h : Holding)
     (O : IsOutcome size seats end h) (s : PathSeat K) (one : Contains seats s) where

@@ -49,12 +49,14 @@ use Rattle.path_table.specs.declared.table.Member.{Member}
 use Rattle.write_path.specs.declared.deposited.Deposited.{Deposited}
 use Rattle.write_path.specs.Claims.{IsClaim, IsAgain, IsSpent}
 use Rattle.write_path.specs.Commits.{KeepsMemtables}
-use Rattle.write_path.specs.Ends.{writes_of, AreTries, EndsWrite, IsTry}
-use Rattle.write_path.specs.FlushSteps.{RetiresNo, RetiresNone, SwitchesNo, SwitchesNone}
-use Rattle.write_path.specs.Grown.{HasGrown}
-use Rattle.write_path.specs.Tries.{Stays, Joined, OnlyLooked}
+use Rattle.path_flush.specs.OwnWrites.{writes_of}
+use Rattle.write_path.specs.Ends.{AreTries, EndsWrite, IsTry}
+use Rattle.path_flush.specs.FlushSteps.{RetiresNo, RetiresNone, SwitchesNo, SwitchesNone}
+use Rattle.path_flush.specs.Grown.{HasGrown}
+use Rattle.path_flush.specs.Seats.{Stays}
+use Rattle.write_path.specs.Tries.{Joined, OnlyLooked}
 use Rattle.write_path.specs.Unretired.{GrowsUnretired}
-use Rattle.write_path.proofs.SwitchGoes.{kept_both, none_both}
+use Rattle.path_flush.proofs.SwitchGoes.{kept_both, none_both}
 
 -- by no step, by one, and by those of two calls
 pub unmoved : (a b : List OwnStep) → b ≡ a → HasGrown a b

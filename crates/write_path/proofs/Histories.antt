@@ -65,7 +65,7 @@ use Rattle.path_core.specs.Words.{by_of}
 use Rattle.path_core.proofs.frame.Runs.{past_sizes}
 use Rattle.path_rule.specs.declared.view.OwnStep.{OwnStep}
 use Rattle.path_rule.specs.Rule.{event_of, steps_by}
-use Rattle.write_path.specs.Ends.{with_write, writes_of}
+use Rattle.path_flush.specs.OwnWrites.{with_write, writes_of}
 
 -- the note that a step deposits
 abbrev pub note_in : Event → List EntryNote

@@ -11,13 +11,13 @@ use Rattle.sync_core.specs.declared.SyncCore.TheVariants.{Batch, Periodic}
 use Rattle.write_path.specs.declared.commit.Commit.{Commit}
 use Rattle.write_path.specs.declared.commit.Commit.TheVariants.{Logged, Durable, Unsynced, Spent}
 use Rattle.write_path.specs.declared.prepared.Prepared.{Prepared}
-use Rattle.write_path.specs.FlushSteps.{RetiresNone, SwitchesNone}
-use Rattle.write_path.specs.Grown.{HasGrown}
+use Rattle.path_flush.specs.FlushSteps.{RetiresNone, SwitchesNone}
+use Rattle.path_flush.specs.Grown.{HasGrown}
 use Rattle.write_path.specs.Receipts.{IsCommitted}
 use Rattle.write_path.specs.SwitchedRows.{switched_at}
 use Rattle.write_path.specs.Syncs.{Syncs}
 use Rattle.write_path.specs.Unretired.{GrowsUnretired}
-use Rattle.write_path.proofs.SwitchGoes.{round_kept, round_none}
+use Rattle.path_flush.proofs.SwitchGoes.{round_kept, round_none}
 
 pub commit_keeps : (mode : SyncCore) (size : PathSize) (w : ℕ) (before : List OwnStep)
     (p : Prepared) (c : Commit) (after : View) → IsCommitted mode size w before p c after

@@ -38,8 +38,8 @@ use Rattle.path_table.specs.Members.{view_of}
 use Rattle.write_path.specs.declared.prepared.Prepared.{Prepared}
 use Rattle.write_path.specs.Closed.{ArePartedFor, AreSyncedFor, IsOutcome}
 use Rattle.write_path.specs.Commits.{IsLogged}
-use Rattle.write_path.specs.Ends.{with_write, writes_of}
-use Rattle.write_path.specs.Grown.{HasGrown}
+use Rattle.path_flush.specs.OwnWrites.{with_write, writes_of}
+use Rattle.path_flush.specs.Grown.{HasGrown}
 use Rattle.write_path.specs.Promised.{WasDone, WasDurable, WasSynced}
 use Rattle.write_path.specs.Sealed.{
   AreSealed,

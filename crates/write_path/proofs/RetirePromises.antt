@@ -59,7 +59,7 @@ use Rattle.write_path.specs.ClosedFiles.{
 }
 use Rattle.write_path.specs.Closed.{IsOutcome}
 use Rattle.write_path.specs.FlushedRows.{file_between, file_to}
-use Rattle.write_path.specs.Grown.{HasGrown}
+use Rattle.path_flush.specs.Grown.{HasGrown}
 use Rattle.write_path.proofs.FlushPromises.{final_before}
 
 -- ---- on a trail that has grown

@@ -27,7 +27,7 @@ use Rattle.path_rule.specs.Calls.{Did, FoundSince}
 use Rattle.path_rule.specs.Rule.{view_after}
 use Rattle.write_path.specs.Claims.{IsSpent}
 use Rattle.write_path.specs.Commits.{HasNoRoom}
-use Rattle.write_path.specs.Grown.{HasGrown}
+use Rattle.path_flush.specs.Grown.{HasGrown}
 use Rattle.write_path.proofs.Growing.{no_shorter}
 
 -- what was found behind more steps was found behind fewer

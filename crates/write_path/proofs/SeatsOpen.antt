@@ -50,9 +50,9 @@ use Rattle.path_table.specs.declared.trying.PathSeat.{PathSeat}
 use Rattle.path_table.specs.Members.{view_of}
 use Rattle.write_path.specs.Closed.{all_opened}
 use Rattle.write_path.specs.Opened.{numbers_of}
-use Rattle.write_path.specs.Opens.{opens}
+use Rattle.path_flush.specs.Opens.{opens}
 use Rattle.write_path.proofs.Accounted.{each_there}
-use Rattle.write_path.proofs.StepsOpen.{counted, opens_more}
+use Rattle.path_flush.proofs.StepsOpen.{counted, opens_more}
 
 -- how many of these steps open a memtable of table t
 abbrev opened_in : ℕ → List Event → ℕ

@@ -48,10 +48,10 @@ use Rattle.sync_core.specs.declared.SyncCore.TheVariants.{Batch}
 use Rattle.write_path.specs.declared.commit.Commit.TheVariants.{Unsynced}
 use Rattle.write_path.specs.declared.commit.Receipt.{Receipt}
 use Rattle.write_path.specs.declared.commit.SyncFault.TheVariants.{Rows as NoRows}
-use Rattle.write_path.specs.declared.flush.Flush.TheVariants.{Rows as FlushRows}
+use Rattle.path_flush.specs.declared.flush_answer.Flush.TheVariants.{Rows as FlushRows}
 use Rattle.write_path.specs.declared.prepared.Prepared.{Prepared}
-use Rattle.write_path.specs.declared.switch.Row.TheVariants.{WriteGroups}
-use Rattle.write_path.specs.declared.switch.Switch.TheVariants.{Rows as SwitchRows}
+use Rattle.path_flush.specs.declared.switch_answer.Row.TheVariants.{WriteGroups}
+use Rattle.path_flush.specs.declared.switch_answer.Switch.TheVariants.{Rows as SwitchRows}
 use Rattle.write_path.specs.Closed.{
   FindsGroupsTo,
   FindsWriteGroupsTo,
@@ -59,11 +59,11 @@ use Rattle.write_path.specs.Closed.{
   IsOutcome,
   all_writes,
 }
-use Rattle.write_path.specs.Ends.{writes_of}
-use Rattle.write_path.specs.Grown.{HasGrown}
+use Rattle.path_flush.specs.OwnWrites.{writes_of}
+use Rattle.path_flush.specs.Grown.{HasGrown}
 use Rattle.write_path.specs.Promised.{WasFlushed, WasSpent}
 use Rattle.write_path.specs.Receipts.{IsCommitted}
-use Rattle.write_path.specs.Switched.{Switches}
+use Rattle.path_flush.specs.Switched.{Switches}
 use Rattle.write_path.specs.Syncs.{Syncs}
 
 -- an entry that is claimed at a key ends in its segment, or in the next one

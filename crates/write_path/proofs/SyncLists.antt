@@ -1,5 +1,4 @@
--- Steps of barriers and syncs leave a seat's list, and the list ends below a key where its deposits
--- do. A try to sync, put together.
+-- Steps of barriers and syncs leave a seat's list. A try to sync, put together.
 use Rattle.std.proofs.Common.{
   ◌≡◌,
   ℕ,
@@ -73,7 +72,8 @@ use Rattle.path_rule.proofs.seats.Answering.{
   may_still,
 }
 use Rattle.path_rule.proofs.seats.RoundsGo.{both, one, one_as}
-use Rattle.write_path.specs.Ends.{with_write, writes_of}
+use Rattle.path_flush.proofs.ListBelow.{list_below}
+use Rattle.path_flush.specs.OwnWrites.{with_write, writes_of}
 use Rattle.write_path.specs.Syncs.{CoversList, HasLooked, Syncs}
 
 -- such a step deposits nothing
@@ -98,38 +98,6 @@ list_stays : (w : ℕ) (ts us : List OwnStep) → AreRoundSteps w ts
 list_stays w [] us A = refl
 list_stays w (t ∷ ts) us A =
     adds_none w t.event (writes_of (ts ++ us)) A.0 ∙ list_stays w ts us A.1
-
--- ---- the list below a key
-
-abbrev AllTo : ℕ → List EntryNote → Type 0
-AllTo s l = (n : EntryNote) → Contains l n → n.end.0 ≤ s
-
-one_more : (s : ℕ) (e : Event) (l : List EntryNote) → EndsBelow s e → AllTo s l
-    → AllTo s (with_write e l)
-one_more s (Close by o g (Deposit note)) l B A = λ n h. found n h
-  where
-    found : (n : EntryNote) → Contains (note ∷ l) n → n.end.0 ≤ s
-    found n (zero, inside, is) = subst (λ (m : EntryNote). m.end.0 ≤ s) is B
-    found n (suc i, inside, is) = A n (i, omega arith, is)
-one_more s (Close by o g Nothing) l B A = A
-one_more s (Close by o g (Applied places)) l B A = A
-one_more s (Look by at) l B A = A
-one_more s (Register by o g) l B A = A
-one_more s (OpenGroup by o g) l B A = A
-one_more s (MoveCurrent by o g) l B A = A
-one_more s (Expire by o g) l B A = A
-one_more s (Advance by o g) l B A = A
-one_more s (Claim by from to what) l B A = A
-one_more s (Switch by t m part) l B A = A
-one_more s (Raise by t m to) l B A = A
-one_more s (Finalise by t m) l B A = A
-one_more s (TakeTurn by turn) l B A = A
-one_more s (GiveTurn by turn) l B A = A
-one_more s (Put by cursor value) l B A = A
-
-pub list_below : (s : ℕ) (ts : List OwnStep) → WroteBelow s ts → AllTo s (writes_of ts)
-list_below s [] B = λ n h. absurd (let inside = h.1 in omega arith)
-list_below s (t ∷ ts) B = one_more s t.event (writes_of ts) B.0 (list_below s ts B.1)
 
 covers : (w opened : ℕ) (a : SyncAnswer) (ps : List Event) (v : View) → IsAnswer w opened a ps v
     → CoversList a v

@@ -36,7 +36,8 @@ use Rattle.path_rule.specs.Calls.{Did}
 use Rattle.path_rule.proofs.seats.Staying.{view_columns, free_stays}
 use Rattle.path_table.specs.Members.{IsOf, KeepsBoxes}
 use Rattle.write_path.specs.declared.deposited.Deposited.{Deposited}
-use Rattle.write_path.specs.Ends.{writes_of, with_write, IsSameWrite, IsTry}
+use Rattle.path_flush.specs.OwnWrites.{writes_of, with_write}
+use Rattle.write_path.specs.Ends.{IsSameWrite, IsTry}
 
 -- a step leaves what a seat knows of its write, and of its turns
 abbrev pub LeavesWrite : Event → Seat → Type 0

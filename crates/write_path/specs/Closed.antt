@@ -59,8 +59,8 @@ use Rattle.write_path.specs.ClosedFiles.{
   IsUnfiled,
   held_range,
 }
-use Rattle.write_path.specs.Ends.{writes_of}
-use Rattle.write_path.specs.Opens.{opens}
+use Rattle.path_flush.specs.OwnWrites.{writes_of}
+use Rattle.path_flush.specs.Opens.{opens}
 use Rattle.write_path.specs.Sealed.{AreSealed, AreSealedApart}
 
 -- A path is closed with all of its seats, in whatever order, or with none where they were not

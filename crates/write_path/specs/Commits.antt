@@ -14,10 +14,11 @@ use Rattle.path_table.specs.declared.table.Member.{Member}
 use Rattle.write_path.specs.declared.prepared.Prepared.{Prepared}
 use Rattle.write_path.specs.declared.writing.Written.{Written}
 use Rattle.write_path.specs.declared.writing.Written.TheVariants.{Logged, Spent}
-use Rattle.write_path.specs.Ends.{writes_of, IsListed}
-use Rattle.write_path.specs.FlushSteps.{RetiresNone, SwitchesNone}
-use Rattle.write_path.specs.Grown.{HasGrown}
-use Rattle.write_path.specs.Tries.{Stays}
+use Rattle.path_flush.specs.OwnWrites.{writes_of}
+use Rattle.write_path.specs.Ends.{IsListed}
+use Rattle.path_flush.specs.FlushSteps.{RetiresNone, SwitchesNone}
+use Rattle.path_flush.specs.Grown.{HasGrown}
+use Rattle.path_flush.specs.Seats.{Stays}
 
 -- It is the same seat of the path, its list is as it was, and its trail has grown.
 abbrev pub KeepsList : {K : Type 0} → TableId → PathSize → Member K → Member K → Type 0

@@ -46,17 +46,8 @@ use Rattle.write_path.specs.declared.deposited.Deposited.{Deposited}
 use Rattle.write_path.specs.declared.accepting.Accept.{Accept}
 use Rattle.write_path.specs.declared.accepting.Accept.TheVariants.{Yes, Later}
 use Rattle.write_path.specs.declared.prepared.Prepared.{Prepared}
-use Rattle.write_path.specs.Tries.{Stays}
+use Rattle.path_flush.specs.Seats.{Stays}
 use Rattle.write_path.specs.Writes.{IsPrepared, IsNoteOf}
-
--- the list of a seat's own writes: the notes that it deposited, the newest first
-abbrev pub with_write : Event → List EntryNote → List EntryNote
-with_write (Close by order group (Deposit note)) writes = note ∷ writes
-with_write _ writes = writes
-
-abbrev pub writes_of : List OwnStep → List EntryNote
-writes_of [] = []
-writes_of (t ∷ ts) = with_write t.event (writes_of ts)
 
 -- Write n is the last that these steps logged, the newest one first, and no entry was claimed
 -- since.

@@ -14,13 +14,13 @@ use Rattle.path_rule.specs.declared.view.View.{View}
 use Rattle.sync_core.specs.declared.SyncCore.TheVariants.{Batch}
 use Rattle.write_path.specs.declared.commit.Commit.TheVariants.{Durable}
 use Rattle.write_path.specs.declared.commit.Receipt.{Receipt}
-use Rattle.write_path.specs.declared.flush.Flush.{Flush}
-use Rattle.write_path.specs.declared.flush.Flush.TheVariants.{Flushed, Empty}
+use Rattle.path_flush.specs.declared.flush_answer.Flush.{Flush}
+use Rattle.path_flush.specs.declared.flush_answer.Flush.TheVariants.{Flushed, Empty}
 use Rattle.write_path.specs.declared.prepared.Prepared.{Prepared}
 use Rattle.write_path.specs.Commits.{HasNoRoom}
-use Rattle.write_path.specs.Ends.{writes_of}
-use Rattle.write_path.specs.Flushed.{Flushes}
-use Rattle.write_path.specs.Grown.{HasGrown}
+use Rattle.path_flush.specs.OwnWrites.{writes_of}
+use Rattle.path_flush.specs.Flushed.{Flushes}
+use Rattle.path_flush.specs.Grown.{HasGrown}
 use Rattle.write_path.specs.Receipts.{IsCommitted}
 use Rattle.write_path.specs.Syncs.{Syncs}
 

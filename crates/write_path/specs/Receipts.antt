@@ -32,9 +32,9 @@ use Rattle.write_path.specs.declared.commit.SyncFault.TheVariants.{
 }
 use Rattle.write_path.specs.declared.prepared.Prepared.{Prepared}
 use Rattle.write_path.specs.Commits.{HasNoRoom, IsLogged}
-use Rattle.write_path.specs.Ends.{writes_of}
-use Rattle.write_path.specs.FlushSteps.{RetiresNone, SwitchesNone}
-use Rattle.write_path.specs.Grown.{HasGrown}
+use Rattle.path_flush.specs.OwnWrites.{writes_of}
+use Rattle.path_flush.specs.FlushSteps.{RetiresNone, SwitchesNone}
+use Rattle.path_flush.specs.Grown.{HasGrown}
 use Rattle.write_path.specs.Sealed.{FoundWhileLast, IsSealed}
 use Rattle.write_path.specs.Syncs.{Syncs, CoversList}
 use Rattle.write_path.specs.Writes.{IsPrepared}

@@ -9,7 +9,8 @@ use Rattle.path_core.specs.Keys.{after}
 use Rattle.path_rule.specs.declared.view.OwnStep.{OwnStep}
 use Rattle.path_rule.specs.Finds.{FindsBy}
 use Rattle.path_rule.specs.Rule.{event_of}
-use Rattle.write_path.specs.Ends.{IsLast, writes_of}
+use Rattle.path_flush.specs.OwnWrites.{writes_of}
+use Rattle.write_path.specs.Ends.{IsLast}
 
 -- While write n was the seat's last, and the seat had claimed nothing since, it found a number at a
 -- place, or put it there.

@@ -15,7 +15,7 @@ use Rattle.path_rule.specs.Finds.{Finds}
 use Rattle.path_rule.specs.Reached.{Reaches}
 use Rattle.path_rule.specs.Rounds.{RoundSteps}
 use Rattle.path_rule.specs.SyncAnswers.{Answers}
-use Rattle.write_path.specs.Ends.{writes_of}
+use Rattle.path_flush.specs.OwnWrites.{writes_of}
 
 -- Done: each write of the seat's list ends at or below the key.
 abbrev pub CoversList : SyncAnswer → View → Type 0

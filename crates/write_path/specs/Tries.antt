@@ -13,10 +13,6 @@ use Rattle.path_rule.specs.HandsAfter.{with_notes}
 use Rattle.path_table.specs.declared.table.Member.{Member}
 use Rattle.path_table.specs.Members.{IsOf}
 
--- It is the same seat of the path, whose table has this id and these sizes.
-abbrev pub Stays : {K : Type 0} → TableId → PathSize → Member K → Member K → Type 0
-Stays id size m m' = IsOf id size m' × (m'.number ≡ m.number)
-
 -- Seat w looked at the current group g of the append order and at its count, and joined it where
 -- that count stood. Its box for the group's parity came with these notes.
 pub record Joined (v : View) (w g : ℕ) (after : View) : Type 0 where

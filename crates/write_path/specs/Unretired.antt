@@ -1,8 +1,8 @@
 -- What a seat's trail is after further steps that retire no memtable, and switch none.
 use Rattle.std.specs.Prelude.{List}
 use Rattle.path_rule.specs.declared.view.OwnStep.{OwnStep}
-use Rattle.write_path.specs.FlushSteps.{RetiresNone, SwitchesNone}
-use Rattle.write_path.specs.Grown.{HasGrown}
+use Rattle.path_flush.specs.FlushSteps.{RetiresNone, SwitchesNone}
+use Rattle.path_flush.specs.Grown.{HasGrown}
 
 -- A trail has grown, by steps of which none retires a memtable, and none is one of a switch.
 abbrev pub GrowsUnretired : List OwnStep → List OwnStep → Type 0

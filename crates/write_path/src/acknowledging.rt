@@ -10,7 +10,7 @@ ghost use Rattle.path_table.specs.Members.{view_of, IsOf};
 ghost use Rattle.write_path.specs.declared.prepared.Prepared.{Prepared as PreparedWrite};
 ghost use Rattle.write_path.specs.Commits.{IsWritten};
 ghost use Rattle.write_path.specs.Receipts.{Acknowledges, IsCommitted, IsLineOf};
-ghost use Rattle.write_path.specs.Tries.{Stays};
+ghost use Rattle.path_flush.specs.Seats.{Stays};
 ghost use Rattle.write_path.specs.Writes.{IsPrepared};
 
 use crate::commit::{Commit, Receipt, SyncFault};

@@ -3,7 +3,7 @@ ghost use Rattle.std.specs.Prelude.{◌≡◌, ◌+◌, ◌/◌, ◌≤◌, ⊤}
 ghost use Rattle.path_table.specs.Members.{view_of, IsOf};
 ghost use Rattle.write_path.specs.Commits.{WritesEndBelow};
 ghost use Rattle.write_path.specs.Claims.{MatchClaim, IsClaim, IsAgain, IsSpent};
-ghost use Rattle.write_path.specs.Tries.{Stays};
+ghost use Rattle.path_flush.specs.Seats.{Stays};
 
 use crate::allocating::log_after;
 use crate::claimed::Claimed;

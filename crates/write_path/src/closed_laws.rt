@@ -25,9 +25,9 @@ ghost use Rattle.path_rule.specs.declared.view.PathSize.{PathSize};
 ghost use Rattle.path_rule.specs.declared.view.View.{View};
 ghost use Rattle.path_rule.specs.TrailRows.{retired};
 ghost use Rattle.path_table.specs.Members.{view_of};
-ghost use Rattle.write_path.specs.declared.flush.Flush.TheVariants.{Rows as FlushRows};
-ghost use Rattle.write_path.specs.declared.switch.Row.TheVariants.{Memtables, WriteGroups};
-ghost use Rattle.write_path.specs.declared.switch.Switch.TheVariants.{Rows as SwitchRows};
+ghost use Rattle.path_flush.specs.declared.flush_answer.Flush.TheVariants.{Rows as FlushRows};
+ghost use Rattle.path_flush.specs.declared.switch_answer.Row.TheVariants.{Memtables, WriteGroups};
+ghost use Rattle.path_flush.specs.declared.switch_answer.Switch.TheVariants.{Rows as SwitchRows};
 ghost use Rattle.write_path.specs.Closed.{IsOutcome, all_opened};
 ghost use Rattle.write_path.specs.ClosedFiles.{
   AreEmpty,
@@ -37,10 +37,10 @@ ghost use Rattle.write_path.specs.ClosedFiles.{
   HasRetired,
   IsGiven,
 };
-ghost use Rattle.write_path.specs.Grown.{HasGrown};
+ghost use Rattle.path_flush.specs.Grown.{HasGrown};
 ghost use Rattle.write_path.specs.Promised.{WasFlushed};
 ghost use Rattle.write_path.specs.FlushedRows.{file_between, file_to, flushed_at};
-ghost use Rattle.write_path.specs.Switched.{Switches};
+ghost use Rattle.path_flush.specs.Switched.{Switches};
 ghost use Rattle.write_path.specs.SwitchedRows.{switched_at};
 
 use path_core::Keeper;

@@ -9,7 +9,7 @@ ghost use Rattle.path_core.specs.declared.note.EntryNote.{EntryNote};
 ghost use Rattle.path_table.specs.Members.{view_of, IsOf, Stepped};
 ghost use Rattle.write_path.specs.Applies.{HoldsUpdates, IsUnappliedFrom};
 ghost use Rattle.write_path.specs.Ends.{IsListed, IsUntriedFrom};
-ghost use Rattle.write_path.specs.Tries.{Stays};
+ghost use Rattle.path_flush.specs.Seats.{Stays};
 ghost use Rattle.write_path.specs.Writes.{entry_size, IsPrepared, IsNoteOf};
 
 use crate::claimed::Claimed;

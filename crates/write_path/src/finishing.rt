@@ -13,14 +13,9 @@ ghost use Rattle.path_core.specs.Allowed.{IsItsPlaces};
 ghost use Rattle.path_core.specs.Parts.{seat_table, touches};
 ghost use Rattle.path_table.specs.Members.{view_of, part_of, IsOf, Stepped};
 ghost use Rattle.write_path.specs.Applies.{HoldsUpdates, IsAppliedBelow, IsUnappliedFrom};
-ghost use Rattle.write_path.specs.Ends.{
-  writes_of,
-  EndsWrite,
-  IsSameWrite,
-  IsUntriedFrom,
-  IsWriteStill,
-};
-ghost use Rattle.write_path.specs.Tries.{Stays};
+ghost use Rattle.path_flush.specs.OwnWrites.{writes_of};
+ghost use Rattle.write_path.specs.Ends.{EndsWrite, IsSameWrite, IsUntriedFrom, IsWriteStill};
+ghost use Rattle.path_flush.specs.Seats.{Stays};
 
 use crate::accepting::Accept;
 use crate::copies::touches;

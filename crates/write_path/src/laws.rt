@@ -53,14 +53,14 @@ ghost use Rattle.sync_core.specs.declared.SyncCore.TheVariants.{Batch};
 ghost use Rattle.write_path.specs.declared.commit.Commit.TheVariants.{Unsynced};
 ghost use Rattle.write_path.specs.declared.commit.Receipt.{Receipt};
 ghost use Rattle.write_path.specs.declared.commit.SyncFault.TheVariants.{Rows as NoRows};
-ghost use Rattle.write_path.specs.declared.flush.Flush.{Flush};
-ghost use Rattle.write_path.specs.declared.flush.Flush.TheVariants.{Flushed, Empty};
+ghost use Rattle.path_flush.specs.declared.flush_answer.Flush.{Flush};
+ghost use Rattle.path_flush.specs.declared.flush_answer.Flush.TheVariants.{Flushed, Empty};
 ghost use Rattle.write_path.specs.declared.prepared.Prepared.{Prepared};
 ghost use Rattle.write_path.specs.ClosedFiles.{HasRetired, IsGiven};
 ghost use Rattle.write_path.specs.Closed.{IsOutcome, PassesNoSegment, all_writes};
 ghost use Rattle.write_path.specs.Commits.{IsLogged};
-ghost use Rattle.write_path.specs.Ends.{writes_of};
-ghost use Rattle.write_path.specs.Grown.{HasGrown};
+ghost use Rattle.path_flush.specs.OwnWrites.{writes_of};
+ghost use Rattle.path_flush.specs.Grown.{HasGrown};
 ghost use Rattle.write_path.specs.Promised.{
   HasFileFrom,
   HasVoid,

@@ -18,26 +18,13 @@ mod deposited;
 mod depositing;
 mod fault;
 mod finishing;
-mod flush;
-mod flush_ending;
-mod flush_filing;
-mod flush_gathering;
-mod flush_lasting;
-mod flush_noting;
-mod flush_reading;
-mod flush_retire;
-mod flush_retiring;
-mod flush_switch;
-mod flush_turn;
 mod flushing;
 mod laws;
 mod opening;
 mod prepared;
 mod resting;
 mod seats;
-mod switch;
 mod switch_laws;
-mod switching;
 mod syncing;
 mod turning;
 mod writing;
@@ -53,16 +40,15 @@ pub use closing::Outcome;
 pub use commit::{Commit, Receipt, SyncFault};
 pub use deposited::Deposited;
 pub use fault::PrepareFault;
-pub use flush::Flush;
 pub use laws::{
     note_laws, rows_need_many_writes, what_a_sync_reaches, what_close_keeps, what_seals_a_write,
     what_spends_a_path, where_a_log_begins,
 };
+pub use path_flush::{Flush, Row, Switch};
 pub use path_rule::SyncAnswer;
 pub use path_table::{Advance, Begun, PathSeat, Seen};
 pub use prepared::Prepared;
 pub use seats::{Appending, WritePath};
-pub use switch::{Row, Switch};
 pub use switch_laws::{
     only_flushes_retire, what_a_flush_leaves, what_a_switch_tells, what_opens_no_memtable,
 };

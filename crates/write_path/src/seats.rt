@@ -27,7 +27,8 @@ ghost use Rattle.path_table.specs.Members.{view_of, IsOf, Stepped};
 ghost use Rattle.path_table.specs.declared.table.Opener.{Opener};
 ghost use Rattle.write_path.specs.declared.resting.Resting.{Resting};
 ghost use Rattle.write_path.specs.Opened.{IsUnused};
-ghost use Rattle.write_path.specs.Tries.{Stays, Joined, OnlyLooked};
+ghost use Rattle.path_flush.specs.Seats.{Stays};
+ghost use Rattle.write_path.specs.Tries.{Joined, OnlyLooked};
 
 use crate::resting::Resting;
 use path_core::Keeper;

@@ -21,12 +21,12 @@ ghost use Rattle.path_rule.specs.TrailRows.{retired};
 ghost use Rattle.sync_core.specs.declared.SyncCore.{SyncCore};
 ghost use Rattle.write_path.specs.declared.commit.Commit.{Commit};
 ghost use Rattle.write_path.specs.declared.prepared.Prepared.{Prepared};
-ghost use Rattle.write_path.specs.Ends.{writes_of};
-ghost use Rattle.write_path.specs.declared.switch.Row.TheVariants.{Memtables};
-ghost use Rattle.write_path.specs.Opens.{opens};
-ghost use Rattle.write_path.specs.Switched.{FindsLast};
+ghost use Rattle.path_flush.specs.OwnWrites.{writes_of};
+ghost use Rattle.path_flush.specs.declared.switch_answer.Row.TheVariants.{Memtables};
+ghost use Rattle.path_flush.specs.Opens.{opens};
+ghost use Rattle.path_flush.specs.Switched.{FindsLast};
 ghost use Rattle.write_path.specs.SwitchedRows.{found_alone, found_both, found_taken, switched_at};
-ghost use Rattle.write_path.specs.FlushSteps.{
+ghost use Rattle.path_flush.specs.FlushSteps.{
   AreFlushSteps,
   Finalises,
   FlushSteps,

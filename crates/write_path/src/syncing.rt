@@ -15,7 +15,7 @@ ghost use Rattle.path_rule.specs.Rounds.{WroteBelow};
 ghost use Rattle.path_rule.specs.SyncAnswers.{IsDoneBy, MayAnswer};
 ghost use Rattle.path_table.specs.Members.{view_of, IsOf, Stepped};
 ghost use Rattle.write_path.specs.Syncs.{HasLooked, Syncs};
-ghost use Rattle.write_path.specs.Tries.{Stays};
+ghost use Rattle.path_flush.specs.Seats.{Stays};
 
 use crate::seats::WritePath;
 use path_core::Keeper;

@@ -9,8 +9,8 @@ ghost use Rattle.path_rule.specs.Lasts.{shows_of};
 ghost use Rattle.path_rule.specs.Rounds.{RoundSteps};
 ghost use Rattle.path_table.specs.Members.{view_of, IsOf, Stepped};
 ghost use Rattle.path_table.specs.Passes.{HasMovedOn, MatchAdvance, RunsStill};
-ghost use Rattle.write_path.specs.Tries.{Stays};
-ghost use Rattle.write_path.specs.Turned.{
+ghost use Rattle.path_flush.specs.Seats.{Stays};
+ghost use Rattle.path_flush.specs.Turned.{
   GaveTurn,
   HoldsDesk,
   HoldsFlush,
@@ -21,6 +21,7 @@ ghost use Rattle.write_path.specs.Turned.{
 use crate::seats::WritePath;
 use clog_base::Table;
 use path_core::{Keeper, Order, Turn};
+use path_flush::{give_flush_turn, give_sync_turn};
 use path_table::{Advance, Member, PathSeat};
 use std::alloc::Allocator;
 
@@ -123,36 +124,9 @@ impl<K: Keeper, A: Allocator> WritePath<K, A> {
     {
         let TurnSeat { member, turn } = seat;
         match turn {
-            Turn::Sync => self.give_sync_turn(member),
-            Turn::Flush(table) => self.give_flush_turn(member, table),
+            Turn::Sync => give_sync_turn(&self.table, member),
+            Turn::Flush(table) => give_flush_turn(&self.table, member, table),
         }
-    }
-
-    // Gives the Sync turn back, and the desk with it.
-    pub(crate) fn give_sync_turn(&self, member: Member<K>) -> PathSeat<K>
-        requires table { IsOf self.now.table.table.shared.table_id self.now.table.size member }
-        requires holds { HoldsSync (view_of member) }
-        requires desk { HoldsDesk (shows_of K.holds) member }
-        ensures same { Stays self.now.table.table.shared.table_id self.now.table.size member
-            result.member }
-        ensures step { GaveTurn Sync member result.member }
-    {
-        let mut member = member;
-        self.table.give_sync(&mut member);
-        PathSeat { member }
-    }
-
-    // Gives a table's Flush turn back.
-    pub(crate) fn give_flush_turn(&self, member: Member<K>, table: Table) -> PathSeat<K>
-        requires table { IsOf self.now.table.table.shared.table_id self.now.table.size member }
-        requires holds { HoldsFlush table.0 member.seat.me }
-        ensures same { Stays self.now.table.table.shared.table_id self.now.table.size member
-            result.member }
-        ensures step { GaveTurn (Flush table) member result.member }
-    {
-        let mut member = member;
-        self.table.give_flush(&mut member, table);
-        PathSeat { member }
     }
 
     /// Moves the oldest group of an order on, by its last step, where its count is found finished,

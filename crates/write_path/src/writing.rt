@@ -10,7 +10,7 @@ ghost use Rattle.write_path.specs.Commits.{
   KeepsMemtables,
   WritesEndBelow,
 };
-ghost use Rattle.write_path.specs.Tries.{Stays};
+ghost use Rattle.path_flush.specs.Seats.{Stays};
 ghost use Rattle.write_path.specs.Writes.{IsPrepared, entry_size};
 
 use crate::claimed::Claimed;

@@ -13,7 +13,7 @@ use Rattle.std.proofs.Common.{
 }
 use Rattle.clog_disk.specs.Files.{Files, SameTold, bytes_at}
 use Rattle.std.specs.Prelude.{is_some}
-use Rattle.write_path.specs.declared.switch.Row.TheVariants as row
+use Rattle.path_flush.specs.declared.switch_answer.Row.TheVariants as row
 use Rattle.clog_writers.specs.Left.{LeavesShares, WritesShares, least_of}
 use Rattle.clog_writers.specs.Written.{HasShareCause}
 use Rattle.clog_base.proofs.Follows.{if_ok}

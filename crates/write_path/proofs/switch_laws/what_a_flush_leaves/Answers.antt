@@ -1,5 +1,5 @@
 use Rattle.write_path.proofs.FlushOwn.{finalises_own, retires_own}
-use Rattle.write_path.proofs.StepsOpen.{others_open}
+use Rattle.path_flush.proofs.StepsOpen.{others_open}
 use Rattle.write_path.proofs.switch_laws.what_a_flush_leaves.Goals as goal
 
 pub returns-clause-finals : goal.returns-clause-finals

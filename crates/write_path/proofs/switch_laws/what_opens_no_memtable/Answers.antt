@@ -1,4 +1,4 @@
-use Rattle.write_path.proofs.StepsOpen.{none_opened, opens_both, round_opens}
+use Rattle.path_flush.proofs.StepsOpen.{none_opened, opens_both, round_opens}
 use Rattle.write_path.proofs.switch_laws.what_opens_no_memtable.Goals as goal
 
 pub returns-clause-unswitched : goal.returns-clause-unswitched

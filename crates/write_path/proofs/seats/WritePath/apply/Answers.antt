@@ -28,7 +28,8 @@ use Rattle.path_rule.specs.declared.view.OwnStep.{OwnStep}
 use Rattle.path_rule.specs.declared.view.PathSize.{PathSize}
 use Rattle.path_rule.specs.Applying.{looked, HasDeposited}
 use Rattle.write_path.specs.Applies.{tables_left}
-use Rattle.write_path.specs.Ends.{put_since, writes_of}
+use Rattle.path_flush.specs.OwnWrites.{writes_of}
+use Rattle.write_path.specs.Ends.{put_since}
 use Rattle.write_path.proofs.UpdatesPut.{one_put}
 use Rattle.write_path.proofs.seats.WritePath.apply.Goals as goal
 

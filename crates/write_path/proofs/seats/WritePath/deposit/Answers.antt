@@ -36,7 +36,8 @@ use Rattle.path_rule.specs.Calls.{Did}
 use Rattle.path_rule.specs.Rule.{event_of}
 use Rattle.path_rule.proofs.seats.Staying.{view_columns, free_stays}
 use Rattle.write_path.specs.Applies.{tables_left}
-use Rattle.write_path.specs.Ends.{writes_of, IsLast}
+use Rattle.path_flush.specs.OwnWrites.{writes_of}
+use Rattle.write_path.specs.Ends.{IsLast}
 use Rattle.write_path.specs.Writes.{IsNoteOf}
 use Rattle.write_path.proofs.UpdatesPut.{none_put}
 use Rattle.write_path.proofs.BoxKept.{carries_notes, has_deposit}

@@ -6,7 +6,7 @@ use Rattle.path_core.specs.Parts.{HoldsNoTurn}
 use Rattle.path_rule.specs.declared.view.View.{View}
 use Rattle.path_rule.specs.Accepted.{places_of}
 use Rattle.path_rule.proofs.seats.Staying.{view_columns, free_stays}
-use Rattle.write_path.specs.Ends.{writes_of}
+use Rattle.path_flush.specs.OwnWrites.{writes_of}
 use Rattle.write_path.proofs.AppliedAt.{are_applied}
 use Rattle.write_path.proofs.SmallSets.{bit_below}
 use Rattle.write_path.proofs.seats.WritePath.finish.Goals as goal

@@ -1,6 +1,6 @@
 use Rattle.path_rule.specs.Rounds.{WroteBelow}
 use Rattle.write_path.specs.Syncs.{HasLooked}
-use Rattle.write_path.specs.Tries.{Stays}
+use Rattle.path_flush.specs.Seats.{Stays}
 use Rattle.write_path.proofs.seats.WritePath.sync.Given as goal
 
 abbrev pub invariant-loop : goal.invariant-loop

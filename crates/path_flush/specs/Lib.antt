@@ -1,0 +1,13 @@
+pub mod Seats
+pub mod OwnWrites
+pub mod Grown
+pub mod Turned
+pub mod FlushSteps
+pub mod Opens
+pub mod Switched
+pub mod FlushTurns
+pub mod FlushSwitches
+pub mod FlushReads
+pub mod FlushGathers
+pub mod FlushFilings
+pub mod Flushed

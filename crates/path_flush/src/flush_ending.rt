@@ -1,0 +1,58 @@
+//! A flush gives its turns back: the Sync turn alone, or both.
+ghost use Rattle.std.specs.Prelude.{◌≡◌, ℕ, None};
+ghost use Rattle.path_core.specs.Parts.{seat_table};
+ghost use Rattle.path_rule.specs.Lasts.{shows_of};
+ghost use Rattle.path_table.specs.Members.{view_of, part_of, hands_of, IsOf};
+ghost use Rattle.path_flush.specs.FlushFilings.{HasBoth, IsBarred};
+ghost use Rattle.path_flush.specs.FlushSteps.{QuietSteps};
+ghost use Rattle.path_flush.specs.FlushTurns.{HasTable};
+ghost use Rattle.path_flush.specs.Seats.{Stays};
+
+use clog_base::Table;
+use path_core::Keeper;
+use path_table::{Holder, Member, PathSeat, PathTable};
+use std::alloc::Allocator;
+use std::sync::Wait;
+
+// Gives the Sync turn back, with the desk, and keeps the table's.
+pub(crate) fn give_sync_beside<K: Keeper, A: Allocator>(
+    path: &PathTable<K, A>,
+    member: Member<K>,
+    table: Table,
+) -> Member<K>
+    requires table { IsOf path.now.table.shared.table_id path.now.size member }
+    requires holds { HasBoth (shows_of K.holds) table.0 member.seat.me }
+    ensures same { Stays path.now.table.shared.table_id path.now.size member
+        result }
+    ensures steps { QuietSteps member.number table.0 (view_of member) (view_of result) }
+    ensures holds { HasTable table.0 result.seat.me }
+    ensures tables { (t : ℕ) → seat_table (part_of result) t ≡ seat_table (part_of member) t }
+    ensures reading { (hands_of result).reading ≡ (hands_of member).reading }
+{
+    let _ = table;
+    let mut member = member;
+    path.give_sync(&mut member);
+    member
+}
+
+// Gives both turns back, the table's first: nothing of its switches is left half done.
+pub(crate) fn end_flush<K: Keeper, A: Allocator, R: Wait>(
+    path: &PathTable<K, A>,
+    rt: &R,
+    member: Member<K>,
+    table: Table,
+) -> PathSeat<K>
+    requires table { IsOf path.now.table.shared.table_id path.now.size member }
+    requires holds { HasBoth (shows_of K.holds) table.0 member.seat.me }
+    requires unread { (hands_of member).reading ≡ None }
+    requires barred { IsBarred table.0 (part_of member) }
+    ensures same { Stays path.now.table.shared.table_id path.now.size member
+        result.member }
+    ensures steps { QuietSteps member.number table.0 (view_of member) (view_of result.member) }
+{
+    // A round of a sync may lie behind the barrier: it is found passed again.
+    let Holder { mut member } = path.pass_all(rt, Holder { member });
+    path.give_flush(&mut member, table);
+    path.give_sync(&mut member);
+    PathSeat { member }
+}

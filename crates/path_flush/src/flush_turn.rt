@@ -1,0 +1,157 @@
+//! The turns that a flush holds: its table's Flush turn, taken by one try, and beside it the Sync
+//! turn, for which it waits. With the first it finds which memtables the table has.
+ghost use Rattle.std.specs.Prelude.{◌≡◌, ℕ, ◌<◌, ◌≤◌, [], None, Some, IfOk, MatchResult};
+ghost use Rattle.path_core.specs.declared.event.Event.TheVariants.{Look};
+ghost use Rattle.path_core.specs.declared.event.Place.TheVariants.{TurnWord};
+ghost use Rattle.path_core.specs.declared.event.Turn.TheVariants.{Flush};
+ghost use Rattle.path_core.specs.declared.seat.Switching.TheVariants.{Settled};
+ghost use Rattle.path_core.specs.Parts.{seat_table, stage_of};
+ghost use Rattle.path_rule.specs.Lasts.{shows_of};
+ghost use Rattle.path_rule.specs.Rounds.{RoundSteps};
+ghost use Rattle.path_rule.specs.Switches.{FlushNewest, FlushOldest, MayGiveFlush};
+ghost use Rattle.path_rule.specs.SyncAnswers.{KnowsMarker};
+ghost use Rattle.path_table.specs.Members.{view_of, part_of, hands_of, IsOf, Stepped};
+ghost use Rattle.path_flush.specs.FlushSteps.{QuietSteps};
+ghost use Rattle.path_flush.specs.FlushTurns.{
+  FindsMemtables,
+  FindsNext,
+  HasTable,
+  HoldsBoth,
+  HoldsTable,
+  KnowsLeft,
+};
+ghost use Rattle.path_flush.specs.Seats.{Stays};
+
+use crate::giving::give_sync_turn;
+use clog_base::Table;
+use path_core::Keeper;
+use path_table::{Member, PathSeat, PathTable};
+use std::alloc::Allocator;
+use std::sync::Wait;
+use std::thread::yield_now;
+
+// How many memtables a table may have: there are words for so many.
+const MEMTABLES: u64 = 256;
+
+/// Which memtables a table has, as the holder of its Flush turn finds.
+#[derive(Clone, Copy, Drop)]
+pub enum Memtables {
+    /// An earlier switch left this one: it is final, and not retired.
+    Left(u64),
+    /// This one is the newest, and no other is in use. There is no word for a further one.
+    Full(u64),
+    /// This one is the newest, and no other is in use. There is a word for the next one.
+    Free(u64),
+}
+
+// Takes a table's Flush turn, where nobody has it. A refused seat only looked, and found the
+// turn's word 1.
+pub(crate) fn take_table<K: Keeper, A: Allocator>(
+    path: &PathTable<K, A>,
+    seat: PathSeat<K>,
+    table: Table,
+) -> Result<Member<K>, (PathSeat<K>, u64)>
+    requires table { IsOf path.now.table.shared.table_id path.now.size seat.member }
+    requires there { table.0 < path.now.size.tables }
+    ensures same { MatchResult result
+        (λ m. Stays path.now.table.shared.table_id path.now.size seat.member m)
+        (λ r. Stays path.now.table.shared.table_id path.now.size seat.member
+        r.0.member) }
+    ensures step { MatchResult result
+        (λ m. QuietSteps seat.member.number table.0 (view_of seat.member) (view_of m))
+        (λ r. (r.1 ≡ 1)
+        × Stepped seat.member (Look seat.member.number (TurnWord (Flush table))) r.1
+        r.0.member) }
+    ensures holds { IfOk result (λ m. HoldsTable table.0 m.seat.me
+        × (stage_of (part_of m) table.0 ≡ Some Settled)) }
+{
+    let PathSeat { mut member } = seat;
+    let found = path.take_flush(&mut member, table);
+    if found == 0 {
+        Ok(member)
+    } else {
+        Err((PathSeat { member }, found))
+    }
+}
+
+// Which memtables the table has.
+pub(crate) fn look_memtables<K: Keeper, A: Allocator>(
+    path: &PathTable<K, A>,
+    member: &mut Member<K>,
+    table: Table,
+) -> Memtables
+    requires table { IsOf path.now.table.shared.table_id path.now.size member.old }
+    requires holds { HoldsTable table.0 member.old.seat.me }
+    ensures same { Stays path.now.table.shared.table_id path.now.size member.old
+        member.new }
+    ensures steps { QuietSteps member.old.number table.0 (view_of member.old)
+        (view_of member.new) }
+    ensures holds { HoldsTable table.0 member.new.seat.me }
+    ensures stage { stage_of (part_of member.new) table.0
+        ≡ stage_of (part_of member.old) table.0 }
+    ensures found { FindsMemtables table.0 result (view_of member.old) (view_of member.new)
+        member.old.number }
+    ensures left { KnowsLeft table.0 result (view_of member.new) }
+    ensures free { FindsNext table.0 result (view_of member.old) (view_of member.new)
+        member.old.number }
+{
+    let oldest = path.look_oldest_live(member, table);
+    let newest = path.look_newest(member, table);
+    if oldest != newest {
+        Memtables::Left(oldest)
+    } else if newest + 1 >= MEMTABLES {
+        Memtables::Full(newest)
+    } else {
+        Memtables::Free(newest)
+    }
+}
+
+// Takes the Sync turn beside the table's, with the desk, and waits while another seat has it.
+// No clause says that it returns.
+pub(crate) fn take_sync_beside<K: Keeper, A: Allocator, R: Wait>(
+    path: &PathTable<K, A>,
+    rt: &R,
+    member: Member<K>,
+    table: Table,
+) -> Member<K>
+    requires table { IsOf path.now.table.shared.table_id path.now.size member }
+    requires holds { HasTable table.0 member.seat.me }
+    ensures same { Stays path.now.table.shared.table_id path.now.size member
+        result }
+    ensures steps { RoundSteps member.number [] (view_of member) (view_of result) }
+    ensures holds { HoldsBoth (shows_of K.holds) table.0 result.seat.me }
+    ensures tables { (t : ℕ) → seat_table (part_of result) t ≡ seat_table (part_of member) t }
+    ensures order { (m n : ℕ) → FlushOldest table.0 (part_of member) m
+        → FlushNewest table.0 (part_of member) n → m ≤ n }
+    ensures knows { KnowsMarker (view_of result) × ((hands_of result).swept ≡ 0)
+        × ((hands_of result).lasting.at_open ≡ path.now.size.at_open) }
+{
+    let _ = table;
+    let mut member = member;
+    for _ in rt.forever() {
+        if path.take_sync(&mut member) == 0 {
+            return member;
+        }
+        yield_now();
+    }
+    unreachable!()
+}
+
+// Gives both turns back, the table's first: nothing of its switches is left half done.
+pub(crate) fn leave_both<K: Keeper, A: Allocator>(
+    path: &PathTable<K, A>,
+    member: Member<K>,
+    table: Table,
+) -> PathSeat<K>
+    requires table { IsOf path.now.table.shared.table_id path.now.size member }
+    requires holds { HoldsBoth (shows_of K.holds) table.0 member.seat.me }
+    requires through { MayGiveFlush table.0 (view_of member) }
+    ensures same { Stays path.now.table.shared.table_id path.now.size member
+        result.member }
+    ensures steps { QuietSteps member.number table.0 (view_of member) (view_of result.member) }
+    ensures stopped { (part_of result.member).found.stopped ≡ (part_of member).found.stopped }
+{
+    let mut member = member;
+    path.give_flush(&mut member, table);
+    give_sync_turn(path, member)
+}

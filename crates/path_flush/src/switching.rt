@@ -1,0 +1,142 @@
+//! A switch of a table's memtable (`ColumnFamilyStore.Flush`, before it writes). The seat takes the
+//! table's Flush turn, and beside it the Sync turn; it makes the next memtable, and the newest one
+//! so far final; it waits for the barrier, and looks into the boxes of all seats. Then it gives both
+//! turns back, and is idle again.
+ghost use Rattle.std.specs.Prelude.{◌≡◌, ◌+◌, ◌<◌, ℕ, None, Some};
+ghost use Rattle.path_core.specs.declared.seat.Switching.TheVariants.{Settled};
+ghost use Rattle.path_core.specs.Parts.{stage_of};
+ghost use Rattle.path_rule.specs.declared.view.View.{View};
+ghost use Rattle.path_rule.specs.Lasts.{shows_of};
+ghost use Rattle.path_rule.specs.Switches.{FlushNewest, FlushOldest};
+ghost use Rattle.path_table.specs.Members.{view_of, part_of, hands_of, IsOf};
+ghost use Rattle.path_flush.specs.FlushSteps.{QuietSteps, UnswitchedSteps};
+ghost use Rattle.path_flush.specs.FlushTurns.{HoldsBoth, HoldsTable, IsDrained};
+ghost use Rattle.path_flush.specs.Switched.{FindsFree, HadTurn, IsSettled, Switches};
+ghost use Rattle.path_flush.specs.Seats.{Stays};
+
+use crate::flush_reading::{read_boxes, start_read};
+use crate::flush_retire::{leave_empty, leave_filled};
+use crate::flush_switch::switch_table;
+use crate::flush_turn::{Memtables, leave_both, look_memtables, take_sync_beside, take_table};
+use crate::giving::give_flush_turn;
+use crate::switch_answer::{Row, Switch};
+use clog_base::{Key, Table};
+use path_core::Keeper;
+use path_table::{Member, PathSeat, PathTable};
+use std::alloc::{Allocator, Global};
+use std::sync::Wait;
+
+// How many groups of the write order there are words for.
+const GROUPS: u64 = 65_536;
+
+// Gives the table's turn back, where no switch was begun.
+pub(crate) fn leave_table<K: Keeper, A: Allocator>(
+    path: &PathTable<K, A>,
+    member: Member<K>,
+    table: Table,
+) -> PathSeat<K>
+    requires table { IsOf path.now.table.shared.table_id path.now.size member }
+    requires holds { HoldsTable table.0 member.seat.me }
+    requires settled { stage_of (part_of member) table.0 ≡ Some Settled }
+    ensures same { Stays path.now.table.shared.table_id path.now.size member
+        result.member }
+    ensures steps { QuietSteps member.number table.0 (view_of member) (view_of result.member) }
+{
+    give_flush_turn(path, member, table)
+}
+
+// Looks whether the memtable holds something, behind its passed barrier, and retires it where it
+// does not. Both turns are given back.
+fn settle<K: Keeper, A: Allocator>(
+    path: &PathTable<K, A>,
+    alloc: Global,
+    member: Member<K>,
+    table: Table,
+    memtable: u64,
+    bound: Key,
+) -> (PathSeat<K>, Switch)
+    requires table { IsOf path.now.table.shared.table_id path.now.size member }
+    requires there { memtable < 256 }
+    requires holds { HoldsBoth (shows_of K.holds) table.0 member.seat.me }
+    requires drained { IsDrained table.0 memtable bound.0 (view_of member) }
+    requires unread { (hands_of member).reading ≡ None }
+    ensures same { Stays path.now.table.shared.table_id path.now.size member
+        result.0.member }
+    ensures steps { UnswitchedSteps member.number table.0 (view_of member)
+        (view_of result.0.member) }
+    ensures settled { IsSettled member.number table.0 memtable bound.0 (view_of member)
+        result.1 (view_of result.0.member) }
+{
+    let (member, above) = start_read(path, member, table, memtable);
+    let (member, empty) = read_boxes(path, alloc, member, table, memtable, above);
+    if empty {
+        (
+            leave_empty(path, member, table, memtable),
+            Switch::Empty(bound),
+        )
+    } else {
+        (leave_filled(path, member, table), Switch::Left(bound))
+    }
+}
+
+// Switches the newest memtable, which was found to be the only one in use, with the table's
+// turn in hand. No clause says that it returns.
+fn switch_newest<K: Keeper, A: Allocator, R: Wait>(
+    path: &PathTable<K, A>,
+    rt: &R,
+    alloc: Global,
+    member: Member<K>,
+    table: Table,
+    newest: u64,
+) -> (PathSeat<K>, Switch)
+    requires table { IsOf path.now.table.shared.table_id path.now.size member }
+    requires holds { HoldsTable table.0 member.seat.me }
+    requires settled { stage_of (part_of member) table.0 ≡ Some Settled }
+    requires turn { FlushNewest table.0 (part_of member) newest
+        × FlushOldest table.0 (part_of member) newest × (newest + 1 < 256) }
+    ensures same { Stays path.now.table.shared.table_id path.now.size member
+        result.0.member }
+    ensures had { HadTurn result.1 }
+    ensures switches { (w : ℕ) (v : View) (q : QuietSteps w table.0 v (view_of member))
+        → member.number ≡ w → FindsFree table.0 q.made.steps
+        → Switches w table.0 v result.1 (view_of result.0.member) }
+{
+    let member = take_sync_beside(path, rt, member, table);
+    let (member, bound) = switch_table(path, rt, member, table, newest);
+    match bound {
+        Some(bound) => settle(path, alloc, member, table, newest, bound),
+        None => (
+            leave_both(path, member, table),
+            Switch::Rows(Row::WriteGroups, GROUPS),
+        ),
+    }
+}
+
+/// Switches a table's memtable, as `WritePath::switch` of write_path tells.
+pub fn switch_memtable<K: Keeper, A: Allocator, R: Wait>(
+    path: &PathTable<K, A>,
+    rt: &R,
+    alloc: Global,
+    seat: PathSeat<K>,
+    table: Table,
+) -> (PathSeat<K>, Switch)
+    requires table { IsOf path.now.table.shared.table_id path.now.size seat.member }
+    requires there { table.0 < path.now.size.tables }
+    ensures same { Stays path.now.table.shared.table_id path.now.size seat.member
+        result.0.member }
+    ensures switches { Switches seat.member.number table.0 (view_of seat.member) result.1
+        (view_of result.0.member) }
+{
+    let mut member = match take_table(path, seat, table) {
+        Ok(member) => member,
+        Err((seat, found)) => return (seat, Switch::Busy(found)),
+    };
+    match look_memtables(path, &mut member, table) {
+        Memtables::Left(memtable) => { (leave_table(path, member, table), Switch::Waits(memtable)) }
+        Memtables::Full(newest) => {
+            let rows = Switch::Rows(Row::Memtables, newest + 1);
+            (leave_table(path, member, table), rows)
+        }
+        Memtables::Free(newest) => switch_newest(path, rt, alloc, member, table, newest),
+    }
+}
