@@ -1,43 +1,18 @@
--- A table's Flush turn, of whose switches none was begun, is taken and given back.
-use Rattle.std.proofs.Common.{
-  ◌≡◌,
-  ◌≢◌,
-  ℕ,
-  ◌<◌,
-  Option,
-  Some,
-  is_some,
-  IsTrue,
-  sym,
-  ap,
-  ◌∙◌,
-  get_or-set_same,
-}
-use Rattle.std.proofs.lemmas.Bool.{false≢true}
+-- A table's Flush turn, of whose switches none was begun, is given back.
+use Rattle.std.proofs.Common.{◌≡◌, ◌≢◌, ℕ, ◌<◌, ap, ◌∙◌, get_or-set_same}
 use mathlib.Core.Logic.{dite, inl}
 use native.Mathlib.Decide.{ℕ_discrete}
 use Rattle.clog_base.specs.declared.cell.Table.{Table}
 use Rattle.path_core.specs.declared.event.Event.TheVariants.{GiveTurn}
 use Rattle.path_core.specs.declared.event.Turn.TheVariants.{Flush}
-use Rattle.path_core.specs.declared.seat.FlushTurn.{FlushTurn}
-use Rattle.path_core.specs.declared.seat.Seat.{Seat}
 use Rattle.path_core.specs.declared.seat.SeatTable.{SeatTable}
 use Rattle.path_core.specs.Parts.{seat_table, untouched, HoldsNoTurn}
-use Rattle.path_rule.specs.declared.view.FlushRead.{FlushRead}
-use Rattle.path_rule.specs.declared.view.Hands.{Hands}
 use Rattle.path_rule.specs.declared.view.View.{View}
-use Rattle.path_rule.specs.Switches.{MayGiveFlush, ReadsNone}
+use Rattle.path_rule.specs.Switches.{MayGiveFlush}
 use Rattle.path_rule.proofs.seats.Accepting.{table_inside}
 use Rattle.path_table.specs.declared.table.Member.{Member}
 use Rattle.path_table.specs.Members.{part_of, Stepped}
 use Rattle.path_flush.specs.Turned.{HoldsFlush}
-
--- a seat that had no turn reads no memtable
-pub nothing_read : (t : ℕ) (p : Seat) (h : Hands) → HoldsNoTurn p
-    → ((q : FlushRead) → h.reading ≡ Some q → IsTrue (is_some (seat_table p q.table).flush))
-    → ReadsNone t h
-nothing_read t p h free reads q has same = false≢true
-    (ap (λ (o : Option FlushTurn). is_some o) (sym (free.flush q.table)) ∙ reads q has)
 
 module _ {K : Type 0} (t : Table) where
   -- it may be given back

@@ -10,7 +10,8 @@ ghost use Rattle.path_flush.specs.Seats.{Stays};
 
 use clog_base::Table;
 use path_core::Keeper;
-use path_table::{Holder, Member, PathSeat, PathTable};
+use path_rounds::{Holder, pass_all};
+use path_table::{Member, PathSeat, PathTable};
 use std::alloc::Allocator;
 use std::sync::Wait;
 
@@ -51,7 +52,7 @@ pub(crate) fn end_flush<K: Keeper, A: Allocator, R: Wait>(
     ensures steps { QuietSteps member.number table.0 (view_of member) (view_of result.member) }
 {
     // A round of a sync may lie behind the barrier: it is found passed again.
-    let Holder { mut member } = path.pass_all(rt, Holder { member });
+    let Holder { mut member } = pass_all(path, rt, Holder { member });
     path.give_flush(&mut member, table);
     path.give_sync(&mut member);
     PathSeat { member }

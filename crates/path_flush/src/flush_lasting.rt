@@ -27,6 +27,7 @@ use crate::switch_answer::Row;
 use clog_base::{Key, Table};
 use clog_cells::CellMap;
 use path_core::Keeper;
+use path_rounds::sync_round;
 use path_rule::SyncAnswer;
 use path_table::{Member, PathTable};
 use std::alloc::{Allocator, Global};
@@ -91,7 +92,7 @@ fn sync_beside<K: Keeper, A: Allocator, R: Wait>(
         (view_of result.0) }
 {
     let member = renew_sync(path, rt, member, table);
-    let (member, answer) = path.sync_round(rt, alloc, member);
+    let (member, answer) = sync_round(path, rt, alloc, member);
     let refused = refused_round(answer);
     (renew_sync(path, rt, member, table), refused)
 }

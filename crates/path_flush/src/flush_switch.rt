@@ -11,7 +11,8 @@ ghost use Rattle.path_flush.specs.Seats.{Stays};
 
 use clog_base::{Key, Table};
 use path_core::{Keeper, Order};
-use path_table::{Holder, Member, PathTable};
+use path_rounds::{Holder, write_barrier};
+use path_table::{Member, PathTable};
 use std::alloc::Allocator;
 use std::sync::Wait;
 
@@ -69,6 +70,6 @@ pub(crate) fn switch_table<K: Keeper, A: Allocator, R: Wait>(
         return (member, None);
     }
     let bound = make_final(path, &mut member, table, newest);
-    let holder = path.write_barrier(rt, Holder { member }, current);
+    let holder = write_barrier(path, rt, Holder { member }, current);
     (holder.member, Some(bound))
 }

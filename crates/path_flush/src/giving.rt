@@ -1,5 +1,4 @@
 //! A seat gives a turn back, of which nothing is left half done, and is idle again.
-ghost use Rattle.std.specs.Prelude.{◌≡◌};
 ghost use Rattle.path_core.specs.declared.event.Turn.TheVariants.{Sync, Flush};
 ghost use Rattle.path_rule.specs.Lasts.{shows_of};
 ghost use Rattle.path_table.specs.Members.{view_of, IsOf};

@@ -2,6 +2,4 @@
 pub mod LastBounds
 pub mod FinalBounds
 pub mod Ends
-pub mod Marking
-pub mod OldestMoves
-pub mod BarrierIssues
+pub mod UnderLog

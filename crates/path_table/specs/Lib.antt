@@ -1,4 +1,2 @@
 pub mod Members
-pub mod Passes
-pub mod Marks
 pub mod ClosedBounds

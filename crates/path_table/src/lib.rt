@@ -5,7 +5,6 @@
 #![tactic(auto)]
 
 mod accepting;
-mod advancing;
 mod append_barrier;
 mod appending;
 mod applying;
@@ -13,21 +12,15 @@ mod bounds;
 mod claiming;
 mod closing;
 mod desk;
-mod ending;
 mod filing;
 mod flush_reading;
 mod gathering;
 mod lending;
 mod looking;
-mod marker_keys;
-mod marking;
 mod opening;
 mod publishing;
 mod read_bounds;
-mod round_ends;
-mod rounding;
 mod seeking;
-mod sweeping;
 mod switching;
 mod syncing;
 mod table;
@@ -35,14 +28,11 @@ mod table_turn;
 mod trying;
 mod turn;
 mod unused;
-mod waiting;
 mod words;
 mod write_barrier;
 mod writing;
 
-pub use advancing::Advance;
 pub use bounds::TableBounds;
 pub use opening::open;
 pub use table::{Member, Opener, PathTable};
 pub use trying::{Begun, PathSeat, Seen};
-pub use waiting::Holder;

@@ -13,7 +13,8 @@ use std::alloc::Allocator;
 #[derive(Drop)]
 pub struct PathTable<K: Keeper, A: Allocator> {
     pub(crate) table: Table<Slot<K>, View, PathKey<K>, PathRule<K>, A>,
-    pub(crate) size: PathSize,
+    /// The sizes of the path.
+    pub size: PathSize,
     pub ghost keyed: { table.shared.key.size ≡ size },
     pub ghost wide: { table.shared.table_id.words ≡ 135240 },
     pub ghost deep: { table.shared.table_id.slots ≡ all_boxes size.seats },
@@ -25,7 +26,8 @@ pub struct PathTable<K: Keeper, A: Allocator> {
 #[derive(Drop)]
 pub struct Member<K> {
     pub(crate) seat: Seat<Slot<K>, View>,
-    pub(crate) number: u8,
+    /// The number of its seat.
+    pub number: u8,
     pub ghost role: { seat.me.0.role ≡ roles.Steps number },
 }
 

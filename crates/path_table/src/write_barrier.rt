@@ -90,14 +90,8 @@ impl<K: Keeper, A: Allocator> PathTable<K, A> {
         )
     }
 
-    // Moves the oldest group over one whose count was found finished.
-    pub(crate) fn advance_write(
-        &self,
-        member: &mut Member<K>,
-        group: u64,
-        oldest: u64,
-        current: u64,
-    )
+    /// Moves the oldest group over one whose count was found finished.
+    pub fn advance_write(&self, member: &mut Member<K>, group: u64, oldest: u64, current: u64)
         requires table { IsOf self.now.table.shared.table_id self.now.size member.old }
         requires turn { Holds Rest (view_of member.old)
             × TurnSaw Write (part_of member.old) current

@@ -14,8 +14,9 @@ use clog_base::{Sizes, Table};
 use op_core::Order;
 use path_core::Keeper;
 use path_machine::ListKeeper;
+use path_rounds::{Advance, Holder, try_advance, write_barrier};
 use path_rule::PathSize;
-use path_table::{Advance, Holder, Member, Opener, PathSeat, PathTable, open};
+use path_table::{Member, Opener, PathSeat, PathTable, open};
 use std::alloc::Global;
 use std::test::*;
 
@@ -122,7 +123,7 @@ fn a_barrier_passes(rt: HostRuntime) -> Result<(), Fail> {
         return Err(Fail::new("the other seat did not start"));
     };
     let _one = table.stop(begun);
-    let Holder { mut member } = table.write_barrier(&rt, Holder { member: zero }, 0);
+    let Holder { mut member } = write_barrier(&table, &rt, Holder { member: zero }, 0);
     assert_eq!(&rt; table.seek_current(&mut member, Order::Write), 1);
     Ok(())
 }
@@ -134,8 +135,8 @@ fn the_oldest_group_moves_on(rt: HostRuntime) -> Result<(), Fail> {
     table.open_write(&mut zero, 1, 0);
     table.move_write(&mut zero, 1, 0);
     let found = table.expire_write(&mut zero, 0, 1);
-    let moved = table.try_advance(&mut zero, Order::Write);
-    let runs = table.try_advance(&mut zero, Order::Write);
+    let moved = try_advance(&table, &mut zero, Order::Write);
+    let runs = try_advance(&table, &mut zero, Order::Write);
     let wanted = (
         0,
         Advance::Moved(1),

@@ -7,7 +7,8 @@ ghost use Rattle.path_table.specs.Members.{part_of, IsOf};
 use crate::barriers::{opened, waiting};
 use op_core::Order;
 use path_core::Keeper;
-use path_table::{Advance, PathSeat, PathTable};
+use path_rounds::{Advance, try_advance};
+use path_table::{PathSeat, PathTable};
 use std::alloc::Global;
 use std::test::*;
 
@@ -46,9 +47,9 @@ fn register_late(alloc: Global) -> Result<(u64, u64, Advance, Advance), Fail> {
         return Err(Fail::new("it did not register"));
     }
     let expired = table.expire_write(&mut zero, 0, 1);
-    let runs = table.try_advance(&mut zero, Order::Write);
+    let runs = try_advance(&table, &mut zero, Order::Write);
     let _left = table.leave(&mut member, group);
-    let moved = table.try_advance(&mut zero, Order::Write);
+    let moved = try_advance(&table, &mut zero, Order::Write);
     Ok((found, expired, runs, moved))
 }
 

@@ -44,3 +44,4 @@ pub mod FullRows
 pub mod AnswerPromises
 pub mod FlushOwn
 pub mod OnlyFlushes
+pub mod FlushHeld

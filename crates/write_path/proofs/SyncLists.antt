@@ -2,9 +2,6 @@
 use Rattle.std.proofs.Common.{
   ◌≡◌,
   ℕ,
-  zero,
-  suc,
-  ◌≤◌,
   List,
   [],
   ◌∷◌,
@@ -17,12 +14,9 @@ use Rattle.std.proofs.Common.{
   ap,
   ◌∙◌,
   subst,
-  arith,
 }
-use Rattle.std.specs.List.{Contains}
 use Rattle.std.proofs.lemmas.Option.{none-some, same_Some}
 use mathlib.Core.Logic.{inl}
-use Rattle.path_core.specs.declared.event.Carried.TheVariants.{Nothing, Deposit, Applied}
 use Rattle.path_core.specs.declared.event.Event.{Event}
 use Rattle.path_core.specs.declared.event.Event.TheVariants.{
   Look,
@@ -54,13 +48,7 @@ use Rattle.path_rule.specs.declared.view.Hands.{Hands}
 use Rattle.path_rule.specs.declared.view.OwnStep.{OwnStep}
 use Rattle.path_rule.specs.declared.view.View.{View}
 use Rattle.path_rule.specs.Calls.{Did, DidAs}
-use Rattle.path_rule.specs.Rounds.{
-  IsRoundStep,
-  AreRoundSteps,
-  RoundSteps,
-  EndsBelow,
-  WroteBelow,
-}
+use Rattle.path_rule.specs.Rounds.{IsRoundStep, AreRoundSteps, RoundSteps}
 use Rattle.path_rule.specs.Finds.{Finds}
 use Rattle.path_rule.specs.Reached.{MayReach, Reaches}
 use Rattle.path_rule.specs.SyncAnswers.{IsAnswer, Answers, MayAnswer}

@@ -46,6 +46,7 @@ use Rattle.write_path.specs.declared.deposited.Deposited.{Deposited}
 use Rattle.write_path.specs.declared.accepting.Accept.{Accept}
 use Rattle.write_path.specs.declared.accepting.Accept.TheVariants.{Yes, Later}
 use Rattle.write_path.specs.declared.prepared.Prepared.{Prepared}
+use Rattle.path_flush.specs.OwnWrites.{writes_of}
 use Rattle.path_flush.specs.Seats.{Stays}
 use Rattle.write_path.specs.Writes.{IsPrepared, IsNoteOf}
 

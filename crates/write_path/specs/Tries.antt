@@ -1,17 +1,13 @@
 -- What a try to join a group says of a seat before and after.
 use Rattle.std.specs.Prelude.{◌≡◌, ℕ, ◌+◌, List, length}
-use Rattle.atomic_table.specs.Seated.{TableId}
 use Rattle.op_core.specs.declared.count.Order.{Order}
 use Rattle.op_core.specs.declared.count.Order.TheVariants.{Append}
 use Rattle.path_core.specs.declared.event.Event.TheVariants.{Register}
 use Rattle.path_core.specs.declared.event.Place.TheVariants.{Count}
 use Rattle.path_core.specs.declared.note.EntryNote.{EntryNote}
-use Rattle.path_rule.specs.declared.view.PathSize.{PathSize}
 use Rattle.path_rule.specs.declared.view.View.{View}
 use Rattle.path_rule.specs.Calls.{DidAs, Refused, FoundSince, acts, looked_twice}
 use Rattle.path_rule.specs.HandsAfter.{with_notes}
-use Rattle.path_table.specs.declared.table.Member.{Member}
-use Rattle.path_table.specs.Members.{IsOf}
 
 -- Seat w looked at the current group g of the append order and at its count, and joined it where
 -- that count stood. Its box for the group's parity came with these notes.

@@ -1,16 +1,8 @@
 //! Where the log goes on behind a claim: the rule of allocation. And where it goes on behind the
 //! synced key.
-ghost use Rattle.std.specs.Prelude.{◌≡◌, ◌/◌, ◌<◌, ◌≤◌, ◌^◌, IfSome, IsNone};
+ghost use Rattle.std.specs.Prelude.{◌≡◌, ◌/◌, ◌<◌, ◌≤◌, IfSome, IsNone};
 ghost use Rattle.path_core.specs.declared.event.ClaimKind.TheVariants.{Entry};
-ghost use Rattle.path_core.specs.Keys.{
-  MovesLog,
-  after,
-  claimed_size,
-  entry_end,
-  fits,
-  marker_size,
-  ordinal_of,
-};
+ghost use Rattle.path_core.specs.Keys.{MovesLog, claimed_size, entry_end, ordinal_of};
 
 use path_rule::PathSize;
 

@@ -45,8 +45,9 @@ pub use laws::{
     what_spends_a_path, where_a_log_begins,
 };
 pub use path_flush::{Flush, Row, Switch};
+pub use path_rounds::Advance;
 pub use path_rule::SyncAnswer;
-pub use path_table::{Advance, Begun, PathSeat, Seen};
+pub use path_table::{Begun, PathSeat, Seen};
 pub use prepared::Prepared;
 pub use seats::{Appending, WritePath};
 pub use switch_laws::{

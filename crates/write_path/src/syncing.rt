@@ -19,6 +19,7 @@ ghost use Rattle.path_flush.specs.Seats.{Stays};
 
 use crate::seats::WritePath;
 use path_core::Keeper;
+use path_rounds::sync_round;
 use path_rule::SyncAnswer;
 use path_table::PathSeat;
 use std::alloc::{Allocator, Global};
@@ -47,7 +48,7 @@ impl<K: Keeper, A: Allocator> WritePath<K, A> {
         if self.table.take_sync(&mut member) != 0 {
             return (PathSeat { member }, None);
         }
-        let (mut member, answer) = self.table.sync_round(rt, alloc, member);
+        let (mut member, answer) = sync_round(&self.table, rt, alloc, member);
         self.table.give_sync(&mut member);
         (PathSeat { member }, answer)
     }

@@ -8,7 +8,7 @@ ghost use Rattle.path_core.specs.declared.event.Turn.TheVariants.{Sync, Flush};
 ghost use Rattle.path_rule.specs.Lasts.{shows_of};
 ghost use Rattle.path_rule.specs.Rounds.{RoundSteps};
 ghost use Rattle.path_table.specs.Members.{view_of, IsOf, Stepped};
-ghost use Rattle.path_table.specs.Passes.{HasMovedOn, MatchAdvance, RunsStill};
+ghost use Rattle.path_rounds.specs.Passes.{HasMovedOn, MatchAdvance, RunsStill};
 ghost use Rattle.path_flush.specs.Seats.{Stays};
 ghost use Rattle.path_flush.specs.Turned.{
   GaveTurn,
@@ -22,7 +22,8 @@ use crate::seats::WritePath;
 use clog_base::Table;
 use path_core::{Keeper, Order, Turn};
 use path_flush::{give_flush_turn, give_sync_turn};
-use path_table::{Advance, Member, PathSeat};
+use path_rounds::{Advance, try_advance};
+use path_table::{Member, PathSeat};
 use std::alloc::Allocator;
 
 /// A seat that has a turn, of which nothing is left half done: with the Sync turn no barrier is
@@ -148,6 +149,6 @@ impl<K: Keeper, A: Allocator> WritePath<K, A> {
             (λ group count. RunsStill order group count (view_of seat.old.member)
             (view_of seat.new.member)) }
     {
-        self.table.try_advance(&mut seat.member, order)
+        try_advance(&self.table, &mut seat.member, order)
     }
 }

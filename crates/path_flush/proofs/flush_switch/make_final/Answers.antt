@@ -6,7 +6,7 @@ use Rattle.path_core.specs.Parts.{stage_of}
 use Rattle.path_rule.specs.declared.view.View.{View}
 use Rattle.path_rule.proofs.seats.Answering.{wrote_more}
 use Rattle.path_rule.proofs.seats.SwitchStages.{found_stage}
-use Rattle.path_table.proofs.seats.Marking.{under_log}
+use Rattle.path_table.proofs.seats.UnderLog.{under_log}
 use Rattle.path_flush.proofs.FlushGoes.{still_wrote}
 use Rattle.path_flush.proofs.FlushTables.{on_table, then_table}
 use Rattle.path_flush.proofs.FlushSwitching.{

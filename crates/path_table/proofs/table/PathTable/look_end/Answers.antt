@@ -2,7 +2,7 @@ use Rattle.std.proofs.Common.{[], refl}
 use Rattle.path_core.specs.declared.event.Event.TheVariants.{Look}
 use Rattle.path_core.specs.declared.event.Place.TheVariants.{Log}
 use Rattle.path_rule.proofs.seats.RoundsGo.{one, still_wrote}
-use Rattle.path_table.proofs.seats.Marking.{under_log}
+use Rattle.path_table.proofs.seats.UnderLog.{under_log}
 use Rattle.path_table.proofs.table.PathTable.look_end.Goals as goal
 
 pub returns-clause-wrote : goal.returns-clause-wrote

@@ -1,0 +1,3 @@
+pub mod MarkerClaims
+pub mod OldestMoves
+pub mod BarrierIssues

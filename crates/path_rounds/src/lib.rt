@@ -1,0 +1,18 @@
+//! What several steps of a seat make that has the Sync turn: barriers of both orders, which wait
+//! until all operations before them are closed, the gathering of all boxes behind one, and a whole
+//! round of a sync. Each goes over `PathTable`, whose methods are the single steps.
+#![tactic(auto)]
+
+mod advancing;
+mod ending;
+mod marker_keys;
+mod marking;
+mod round_ends;
+mod rounding;
+mod sweeping;
+mod waiting;
+mod words;
+
+pub use advancing::{Advance, try_advance};
+pub use rounding::sync_round;
+pub use waiting::{Holder, pass_all, write_barrier};

@@ -1,0 +1,7 @@
+//! What the words of groups may hold.
+
+/// The highest bit of a count, which marks an expired group.
+pub(crate) const EXPIRED: u64 = 0x8000_0000_0000_0000;
+
+/// The last group of an order that there is a word for.
+pub(crate) const LAST_GROUP: u64 = 65_535;
