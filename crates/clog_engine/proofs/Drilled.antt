@@ -31,7 +31,7 @@ use Rattle.clog_mutation.specs.declared.mutation.Mutation.{Mutation}
 use Rattle.clog_words.specs.declared.request.ApplyOptions.{ApplyOptions}
 use Rattle.clog_crash.specs.Folder.{IsFirstBad}
 use Rattle.clog_folder.specs.Folder.{HasDamage, HasLongSegment}
-use Rattle.clog_writers.specs.Fitting.{HasFittingEntry}
+use Rattle.clog_shares.specs.Fitting.{HasFittingEntry}
 use Rattle.clog_engine.specs.Completes.{IsReplayable}
 use Rattle.clog_engine.specs.declared.status.Status.{Status}
 use Rattle.clog_engine.specs.declared.status.Status.TheVariants.{

@@ -27,7 +27,7 @@ use Rattle.clog_io.specs.Bytes.{TakesAll}
 use Rattle.clog_mutation.specs.declared.mutation.Mutation.{Mutation}
 use Rattle.clog_text.specs.declared.refusal.BadLine.{BadLine as Cause}
 use Rattle.clog_text.specs.FileMutations.{Refused, file_mutations}
-use Rattle.clog_writers.specs.Fitting.{HasFittingEntry, HasLargeMutation}
+use Rattle.clog_shares.specs.Fitting.{HasFittingEntry, HasLargeMutation}
 use Rattle.clog_engine.specs.Apply.{ReadsToEnd}
 use Rattle.clog_engine.specs.Completes.{Tells}
 use Rattle.clog_engine.specs.Input.{

@@ -47,7 +47,7 @@ use Rattle.clog_text.specs.Made.{
   number_of,
   upper_half,
 }
-use Rattle.clog_writers.specs.Fitting.{HasFittingEntry}
+use Rattle.clog_shares.specs.Fitting.{HasFittingEntry}
 
 -- ---- a name and a value
 

@@ -10,7 +10,7 @@ use Rattle.clog_text.specs.FileLines.{lines_of, line_limit}
 use Rattle.clog_text.specs.FileMutations.{file_mutations}
 use Rattle.clog_words.specs.declared.request.ApplyOptions.{ApplyOptions}
 use Rattle.clog_applied.specs.Asked.{capacity_of}
-use Rattle.clog_writers.specs.Fitting.{HasFittingEntry, HasLargeMutation}
+use Rattle.clog_shares.specs.Fitting.{HasFittingEntry, HasLargeMutation}
 use Rattle.clog_writers.specs.Logged.{HasManyUpdates}
 use Rattle.clog_engine.specs.Limits.{group_limit}
 

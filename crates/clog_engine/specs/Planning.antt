@@ -26,8 +26,8 @@ use Rattle.clog_io.specs.Causes.{Rose}
 use Rattle.clog_mutation.specs.declared.mutation.Mutation.{Mutation}
 use Rattle.clog_mutation.specs.Payload.{cells_of}
 use Rattle.clog_text.specs.FileLines.{line_limit}
-use Rattle.clog_writers.specs.Fitting.{HasFittingEntry, HasLargeMutation}
-use Rattle.clog_writers.specs.Planned.{IsPlanFor}
+use Rattle.clog_shares.specs.Fitting.{HasFittingEntry, HasLargeMutation}
+use Rattle.clog_shares.specs.Planned.{IsPlanFor}
 use Rattle.clog_engine.specs.declared.shares.PlannedLines.{PlannedLines}
 use Rattle.clog_engine.specs.declared.status.Status.{Status}
 use Rattle.clog_engine.specs.declared.status.Status.TheVariants.{

@@ -40,11 +40,11 @@ use Rattle.clog_closing.specs.Gaps.{StandApart}
 use Rattle.write_path.specs.Closed.{IsOutcome}
 use Rattle.path_flush.specs.OwnWrites.{writes_of}
 use Rattle.write_path.specs.Sealed.{AreSealedApart, IsSealed}
-use Rattle.clog_writers.specs.declared.fault.WriteFault.{WriteFault}
-use Rattle.clog_writers.specs.Crews.{HaveEnded}
+use Rattle.clog_shares.specs.declared.fault.WriteFault.{WriteFault}
+use Rattle.clog_shares.specs.Crews.{HaveEnded}
 use Rattle.clog_writers.specs.Logged.{is_note_of}
-use Rattle.clog_writers.specs.Sealing.{AreEarlierSealed, HaveWaited}
-use Rattle.clog_writers.specs.Shares.{Rise}
+use Rattle.clog_shares.specs.Sealing.{AreEarlierSealed, HaveWaited}
+use Rattle.clog_shares.specs.Shares.{Rise}
 use Rattle.clog_writers.proofs.Owned.{is_its, its, known, long, same_list, seat_of}
 use Rattle.clog_writers.proofs.Rising.{newest_last}
 

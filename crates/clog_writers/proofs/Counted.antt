@@ -35,7 +35,7 @@ use Rattle.clog_applied.specs.History.{
 use Rattle.clog_applied.proofs.Lists.{kept_one, left_one}
 use Rattle.path_core.specs.declared.note.EntryNote.{EntryNote}
 use Rattle.clog_writers.specs.Logged.{HoldShares, is_note_of}
-use Rattle.clog_writers.specs.Shares.{AreWritesOf}
+use Rattle.clog_shares.specs.Shares.{AreWritesOf}
 
 module _ {A : Type 0} (of : A → ℕ) where
   abbrev pub is_of : ℕ → A → Bool

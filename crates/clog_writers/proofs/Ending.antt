@@ -33,9 +33,9 @@ use Rattle.path_core.specs.Next.{is_between}
 use Rattle.path_rule.specs.declared.view.PathSize.{PathSize}
 use Rattle.path_table.specs.declared.trying.PathSeat.{PathSeat}
 use Rattle.write_path.specs.Closed.{IsOutcome, IsSyncedFor}
-use Rattle.clog_writers.specs.Crews.{HaveEnded}
+use Rattle.clog_shares.specs.Crews.{HaveEnded}
 use Rattle.clog_writers.specs.Logged.{HoldShares}
-use Rattle.clog_writers.specs.Shares.{AreWritesOf, logged_by}
+use Rattle.clog_shares.specs.Shares.{AreWritesOf, logged_by}
 use Rattle.clog_writers.proofs.Firsts.{all_pass, none_pass}
 use Rattle.clog_writers.proofs.Owned.{is_its, its, known, mine, of_place, owned, same_list}
 

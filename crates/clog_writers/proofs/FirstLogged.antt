@@ -44,10 +44,10 @@ use Rattle.path_rule.specs.declared.view.PathSize.{PathSize}
 use Rattle.path_table.specs.declared.trying.PathSeat.{PathSeat}
 use Rattle.clog_layout.proofs.Pairs.{pairs_none}
 use Rattle.write_path.specs.Closed.{IsOutcome, all_writes}
-use Rattle.clog_writers.specs.declared.fault.WriteFault.{WriteFault}
-use Rattle.clog_writers.specs.Crews.{HaveEnded}
+use Rattle.clog_shares.specs.declared.fault.WriteFault.{WriteFault}
+use Rattle.clog_shares.specs.Crews.{HaveEnded}
 use Rattle.clog_writers.specs.Logged.{HoldFirsts, is_note_of}
-use Rattle.clog_writers.specs.Shares.{AreFirstWrites, AreWritesOf}
+use Rattle.clog_shares.specs.Shares.{AreFirstWrites, AreWritesOf}
 use Rattle.clog_writers.proofs.Firsts.{
   first_of_more,
   first_writes,

@@ -34,7 +34,7 @@ use Rattle.path_core.specs.LawfulLog.{is_at_most}
 use Rattle.path_core.specs.Next.{is_between}
 use Rattle.path_core.proofs.lists.Heads.{ahead, behind}
 use Rattle.path_core.proofs.log.Between.{AreLong, IsInOrder}
-use Rattle.clog_writers.specs.Shares.{AreFirstWrites, AreWritesOf}
+use Rattle.clog_shares.specs.Shares.{AreFirstWrites, AreWritesOf}
 
 -- ---- lists
 

@@ -38,10 +38,10 @@ use Rattle.path_table.specs.declared.trying.PathSeat.{PathSeat}
 use Rattle.path_table.specs.Members.{view_of}
 use Rattle.write_path.specs.Closed.{IsOutcome}
 use Rattle.write_path.specs.ClosedFiles.{CoversFlushed}
-use Rattle.clog_writers.specs.Crews.{HaveEnded}
+use Rattle.clog_shares.specs.Crews.{HaveEnded}
 use Rattle.clog_writers.specs.Logged.{HasFlushedShare, HaveFlushedShares, is_note_of}
-use Rattle.clog_writers.specs.Shares.{AreWritesOf}
-use Rattle.clog_writers.specs.Tallied.{HasFlushedAll, IsFlushedOf, IsFlushedOver}
+use Rattle.clog_shares.specs.Shares.{AreWritesOf}
+use Rattle.clog_shares.specs.Tallied.{HasFlushedAll, IsFlushedOf, IsFlushedOver}
 use Rattle.clog_writers.proofs.Ending.{all_logged}
 use Rattle.clog_writers.proofs.Owned.{is_its, its, same_list, seat_of}
 

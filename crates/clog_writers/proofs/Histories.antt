@@ -57,9 +57,9 @@ use Rattle.clog_closing.proofs.Tables.{line_of_note}
 use Rattle.write_path.specs.declared.commit.Receipt.{Receipt}
 use Rattle.clog_writers.specs.Logged.{HoldShares, is_note_of}
 use Rattle.clog_writers.specs.Placed.{AreAtTheirLines, HasItsReceipt, receipt_of}
-use Rattle.clog_writers.specs.Shares.{AreWritesOf, IsWriteOf}
+use Rattle.clog_shares.specs.Shares.{AreWritesOf, IsWriteOf}
 use Rattle.clog_writers.specs.Written.{line_receipt}
-use Rattle.clog_writers.proofs.SameLines.{entry_is}
+use Rattle.clog_shares.proofs.SameLines.{entry_is}
 
 -- ---- a writer's lines
 

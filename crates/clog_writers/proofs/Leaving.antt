@@ -65,7 +65,7 @@ use Rattle.write_path.specs.Closed.{PassesNoSegment}
 use Rattle.write_path.proofs.NonePassed.{begins_first}
 use Rattle.clog_writers.specs.Logged.{HaveFlushedShares, HoldShares, is_note_of}
 use Rattle.clog_writers.specs.Placed.{AreAtTheirLines}
-use Rattle.clog_writers.specs.Shares.{AreWritesOf}
+use Rattle.clog_shares.specs.Shares.{AreWritesOf}
 use Rattle.clog_writers.specs.Written.{BeginsIn, AsksFor, TellsWrittenShares}
 use Rattle.clog_writers.proofs.FlushedLines.{has_flushed}
 use Rattle.clog_writers.proofs.Histories.{

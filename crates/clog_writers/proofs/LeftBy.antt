@@ -29,7 +29,7 @@ use Rattle.clog_segments.specs.Life.{LastsNow, ShownSince, lasting_in}
 use Rattle.clog_segments.specs.NoteLog.{IsNoteLog, NoteState}
 use Rattle.clog_segments.specs.StoreState.{StoreState}
 use Rattle.clog_closing.specs.Written.{GoesBeyond, HasBrought}
-use Rattle.clog_writers.specs.declared.fault.WriteFault.{WriteFault}
+use Rattle.clog_shares.specs.declared.fault.WriteFault.{WriteFault}
 use Rattle.clog_writers.specs.Left.{LeavesShares, least_of}
 use Rattle.clog_writers.specs.Logged.{HoldFirsts, HoldShares}
 use Rattle.clog_writers.proofs.Counted.{as_many_lines}

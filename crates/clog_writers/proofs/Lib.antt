@@ -1,6 +1,4 @@
 pub mod Rising
-pub mod Committing
-pub mod Timing
 pub mod Firsts
 pub mod Owned
 pub mod FirstLogged
@@ -9,10 +7,6 @@ pub mod FiledWell
 pub mod FlushedShares
 pub mod Apart
 pub mod Totals
-pub mod Dealt
-pub mod LineWrites
-pub mod Seating
-pub mod Gathering
 pub mod Running
 pub mod Histories
 pub mod FlushedLines
@@ -28,15 +22,5 @@ pub mod OneWriter
 pub mod Settling
 pub mod Brought
 pub mod SegmentOrder
-pub mod UpdateCounts
-pub mod Lacking
-pub mod FlushTold
-pub mod Tallying
-pub mod NextLines
-pub mod SameLines
-pub mod Opening
-pub mod Paying
 pub mod ShareUpdates
-pub mod TriedFlushes
-pub mod Keeping
 pub mod WorkedUpdates

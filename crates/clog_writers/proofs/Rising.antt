@@ -28,7 +28,7 @@ use Rattle.std.proofs.lemmas.List.Sorted.{Contains-permutation, IsPermutation-re
 use Rattle.clog_base.proofs.Members.{first_or_further, further, here, nothing_there}
 use Rattle.path_core.specs.declared.note.EntryNote.{EntryNote}
 use Rattle.path_core.proofs.lists.Heads.{ahead, behind}
-use Rattle.clog_writers.specs.Shares.{Rise}
+use Rattle.clog_shares.specs.Shares.{Rise}
 
 module _ {A : Type 0} (key : A → ℕ) where
   -- the key of each is below those of all later ones

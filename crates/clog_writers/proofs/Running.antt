@@ -64,15 +64,15 @@ use Rattle.write_path.specs.Opened.{ShowsAsBefore, numbers_of, size_of, sized_fo
 use Rattle.write_path.proofs.BesideStays.{stays_beside}
 use Rattle.write_path.proofs.NonePassed.{logged_passes_none}
 use Rattle.write_path.proofs.Spending.{segments_spent}
-use Rattle.clog_writers.specs.declared.fault.WriteFault.{WriteFault}
-use Rattle.clog_writers.specs.declared.fault.WriteFault.TheVariants.{
+use Rattle.clog_shares.specs.declared.fault.WriteFault.{WriteFault}
+use Rattle.clog_shares.specs.declared.fault.WriteFault.TheVariants.{
   OutOfMemory,
   Rows,
   Spent,
   Stopped,
 }
-use Rattle.clog_writers.specs.declared.worker.Worker.{Worker}
-use Rattle.clog_writers.specs.Crews.{
+use Rattle.clog_shares.specs.declared.worker.Worker.{Worker}
+use Rattle.clog_shares.specs.Crews.{
   AreDealt,
   AreReady,
   HaveEnded,
@@ -80,6 +80,7 @@ use Rattle.clog_writers.specs.Crews.{
   IsSizedAs,
   KnowsRows,
 }
+use Rattle.clog_shares.proofs.WrittenBack.{written_back}
 use Rattle.clog_writers.specs.Logged.{
   EndsShares,
   GoesOnBeside,
@@ -88,7 +89,7 @@ use Rattle.clog_writers.specs.Logged.{
   HoldShares,
   IsLack,
 }
-use Rattle.clog_writers.specs.Sealing.{WaitShares}
+use Rattle.clog_shares.specs.Sealing.{WaitShares}
 use Rattle.clog_writers.proofs.Ending.{hold_shares, none_kept}
 use Rattle.clog_writers.proofs.FiledWell.{has_good}
 use Rattle.clog_writers.proofs.FirstLogged.{
@@ -99,17 +100,9 @@ use Rattle.clog_writers.proofs.FirstLogged.{
   none_written,
 }
 use Rattle.clog_writers.proofs.FlushedShares.{have_flushed}
-use Rattle.clog_writers.proofs.Opening.{newest_opened}
+use Rattle.clog_shares.proofs.Opening.{newest_opened}
 use Rattle.clog_writers.proofs.ShareUpdates.{all_paid_for}
 use Rattle.clog_writers.proofs.Totals.{few_writes}
-
--- what a slice of a whole list of workers is written back to
-pub written_back : {A : Type 0} (n : ℕ) (xs ys : List A) → n ≡ length xs
-    → take n (xs ++ ys) ≡ xs
-written_back n [] ys is = ap (λ (k : ℕ). take k ys) is
-written_back {A} n (x ∷ xs) ys is =
-    ap (λ (k : ℕ). take k (x ∷ (xs ++ ys))) is
-    ∙ ap (λ (l : List A). x ∷ l) (written_back (length xs) xs ys refl)
 
 -- a path that was opened with sizes has these
 pub sized_as : (size : PathSize) (sizes : Sizes) (base at_open : ℕ) (files : Bool)

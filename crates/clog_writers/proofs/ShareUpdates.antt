@@ -39,8 +39,8 @@ use Rattle.clog_applied.proofs.Lists.{kept_one, left_one}
 use Rattle.path_rule.specs.declared.view.PathSize.{PathSize}
 use Rattle.path_table.specs.declared.trying.PathSeat.{PathSeat}
 use Rattle.path_table.specs.Members.{view_of}
-use Rattle.clog_writers.specs.declared.fault.WriteFault.{WriteFault}
-use Rattle.clog_writers.specs.Crews.{HaveEnded}
+use Rattle.clog_shares.specs.declared.fault.WriteFault.{WriteFault}
+use Rattle.clog_shares.specs.Crews.{HaveEnded}
 use Rattle.write_path.specs.Closed.{all_opened}
 use Rattle.path_flush.specs.Opens.{opens}
 

@@ -28,7 +28,7 @@ use Rattle.clog_closing.specs.Written.{
   HoldsFirsts,
   RestoresLines,
 }
-use Rattle.clog_writers.specs.declared.fault.WriteFault.{WriteFault}
+use Rattle.clog_shares.specs.declared.fault.WriteFault.{WriteFault}
 
 -- The entries of a log are those of a history of which each writer's lines are the first of its
 -- share, in order, each at its place.

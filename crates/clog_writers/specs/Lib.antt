@@ -1,16 +1,6 @@
-pub mod Fitting
-pub mod Shares
-pub mod Tallied
-pub mod Tallies
-pub mod Crews
-pub mod Sealing
-pub mod Timed
-pub mod Committed
 pub mod Logged
 pub mod Settled
 pub mod Placed
-pub mod Planned
-pub mod LineWrites
 pub mod Written
 pub mod Left
 pub mod Worked

@@ -42,12 +42,12 @@ use Rattle.path_flush.specs.declared.switch_answer.Row.TheVariants.{
   WriteGroups,
 }
 use Rattle.write_path.specs.Closed.{PassesNoSegment}
-use Rattle.clog_writers.specs.declared.fault.WriteFault.{WriteFault}
-use Rattle.clog_writers.specs.declared.fault.WriteFault.TheVariants.{Rows, Spent, Stopped}
-use Rattle.clog_writers.specs.declared.worker.Worker.{Worker}
-use Rattle.clog_writers.specs.Crews.{AreDealt}
-use Rattle.clog_writers.specs.Shares.{AreFirstWrites, AreWritesOf}
-use Rattle.clog_writers.specs.Tallied.{updates_for}
+use Rattle.clog_shares.specs.declared.fault.WriteFault.{WriteFault}
+use Rattle.clog_shares.specs.declared.fault.WriteFault.TheVariants.{Rows, Spent, Stopped}
+use Rattle.clog_shares.specs.declared.worker.Worker.{Worker}
+use Rattle.clog_shares.specs.Crews.{AreDealt}
+use Rattle.clog_shares.specs.Shares.{AreFirstWrites, AreWritesOf}
+use Rattle.clog_shares.specs.Tallied.{updates_for}
 
 -- The keeper goes on from the disk of the one before. What it has done beside its log is good: it
 -- has done nothing where writers do not flush, and has put few files where they do.

@@ -39,8 +39,8 @@ use Rattle.clog_applied.specs.Printed.{AreByLine}
 use Rattle.clog_closing.specs.NextNames.{HaveNextNames}
 use Rattle.path_core.specs.declared.note.EntryNote.{EntryNote}
 use Rattle.write_path.specs.declared.commit.Receipt.{Receipt}
-use Rattle.clog_writers.specs.declared.fault.WriteFault.{WriteFault}
-use Rattle.clog_writers.specs.declared.fault.WriteFault.TheVariants.{OutOfMemory, Stopped}
+use Rattle.clog_shares.specs.declared.fault.WriteFault.{WriteFault}
+use Rattle.clog_shares.specs.declared.fault.WriteFault.TheVariants.{OutOfMemory, Stopped}
 use Rattle.clog_writers.specs.Logged.{HoldShares}
 use Rattle.clog_writers.specs.Placed.{AreAtTheirLines}
 

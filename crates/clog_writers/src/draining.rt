@@ -28,7 +28,7 @@ ghost use Rattle.clog_memtable.specs.Filling.{AreWhole};
 ghost use Rattle.clog_memtable.specs.Touched.{AreMemtablesOf};
 ghost use Rattle.clog_segments.specs.NoteLog.{IsNoteLog};
 ghost use Rattle.clog_segments.specs.StoreState.{holding_of};
-ghost use Rattle.clog_writers.specs.declared.fault.WriteFault.TheVariants.{
+ghost use Rattle.clog_shares.specs.declared.fault.WriteFault.TheVariants.{
   Rows,
   Spent,
   Stopped,
@@ -37,10 +37,10 @@ ghost use Rattle.clog_writers.specs.Settled.{Settles};
 ghost use Rattle.clog_writers.specs.Written.{refused_as};
 ghost use Rattle.path_flush.specs.declared.switch_answer.Row.{Row};
 
-use crate::fault::WriteFault;
 use clog_base::{Key, OutOfMemory};
 use clog_disk::Disk;
 use clog_memtable::{Memtable, memtables_of};
+use clog_shares::WriteFault;
 use clog_store::Store;
 use path_core::{EntryNote, KeeperFault};
 use std::alloc::Global;

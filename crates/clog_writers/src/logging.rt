@@ -20,20 +20,16 @@ ghost use Rattle.std.specs.Prelude.{
 };
 ghost use Rattle.clog_spec.specs.Sizes.{most_tables};
 ghost use Rattle.clog_mutation.specs.declared.mutation.Mutation.{Mutation};
-ghost use Rattle.clog_writers.specs.Crews.{AreDealt, IsOpenFor};
+ghost use Rattle.clog_shares.specs.Crews.{AreDealt, IsOpenFor};
 ghost use Rattle.clog_writers.specs.Logged.{EndsShares};
 ghost use Rattle.path_core.specs.Keeper.{Holding, IsFresh};
 ghost use Rattle.clog_closing.specs.Gaps.{StandApart};
 ghost use Rattle.sync_core.specs.declared.SyncCore.TheVariants.{Batch};
 ghost use Rattle.write_path.specs.Opened.{AreNew, ShowsAsBefore, sized_for};
 
-use crate::crew::{commit_all, seat_all};
-use crate::fault::WriteFault;
-use crate::returning::end_all;
-use crate::syncing::Syncing;
-use crate::worker::Worker;
 use clog_base::{OutOfMemory, Sizes};
 use clog_io::{Clock, Gate};
+use clog_shares::{Syncing, Worker, WriteFault, commit_all, end_all, seat_all};
 use path_core::Keeper;
 use std::alloc::Global;
 use std::sync::Wait;

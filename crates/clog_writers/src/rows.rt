@@ -5,7 +5,7 @@ ghost use Rattle.clog_crash.specs.Worked.{the_mutation};
 ghost use Rattle.clog_mutation.specs.declared.mutation.Mutation.{Mutation};
 ghost use Rattle.clog_closing.specs.Written.{HoldsFirsts};
 ghost use Rattle.clog_writers.specs.Logged.{HasManyUpdates};
-ghost use Rattle.clog_writers.specs.Tallied.{IsTallied};
+ghost use Rattle.clog_shares.specs.Tallied.{IsTallied};
 ghost use Rattle.clog_writers.specs.Worked.{
   all_three,
   by_another,

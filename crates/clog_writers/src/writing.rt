@@ -29,7 +29,7 @@ ghost use Rattle.clog_mutation.specs.declared.mutation.Mutation.{Mutation as Mut
 ghost use Rattle.clog_words.specs.declared.request.ApplyOptions.{ApplyOptions};
 ghost use Rattle.clog_segments.specs.StoreFailed.{AllStay};
 ghost use Rattle.clog_segments.specs.StoreState.{store_over};
-ghost use Rattle.clog_writers.specs.declared.fault.WriteFault.TheVariants.{
+ghost use Rattle.clog_shares.specs.declared.fault.WriteFault.TheVariants.{
   Rows,
   Spent,
   Stopped,
@@ -37,7 +37,7 @@ ghost use Rattle.clog_writers.specs.declared.fault.WriteFault.TheVariants.{
 ghost use Rattle.clog_writers.specs.Logged.{IsLack};
 ghost use Rattle.path_flush.specs.declared.switch_answer.Row.{Row as RowOf};
 ghost use Rattle.clog_writers.specs.Left.{LeavesShares, WritesShares, least_of};
-ghost use Rattle.clog_writers.specs.Planned.{IsPlanFor};
+ghost use Rattle.clog_shares.specs.Planned.{IsPlanFor};
 ghost use Rattle.clog_writers.specs.Written.{
   HasReceipts,
   HasShareCause,
@@ -46,15 +46,13 @@ ghost use Rattle.clog_writers.specs.Written.{
 };
 
 use crate::draining::settle_asked;
-use crate::fault::WriteFault;
 use crate::logging::log_shares;
 use crate::placing::place_receipts;
-use crate::planning::Plan;
-use crate::syncing::Syncing;
 use clog_base::Sizes;
 use clog_closing::stores_are_left;
 use clog_disk::Disk;
 use clog_io::{Clock, Gate};
+use clog_shares::{Plan, Syncing, WriteFault};
 use clog_store::Store;
 use std::alloc::Global;
 use std::sync::Wait;

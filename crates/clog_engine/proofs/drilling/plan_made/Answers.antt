@@ -2,7 +2,7 @@ use Rattle.std.proofs.Common.{ℕ, List, ap, sym, subst, arith, length}
 use Rattle.std.specs.List.{AllByRecursion}
 use Rattle.clog_mutation.specs.Limits.{IsWithinLimits}
 use Rattle.clog_mutation.specs.declared.mutation.Mutation.{Mutation}
-use Rattle.clog_writers.specs.Fitting.{HasFittingEntry}
+use Rattle.clog_shares.specs.Fitting.{HasFittingEntry}
 use Rattle.clog_engine.proofs.Drilled.{memory_alone}
 use Rattle.clog_engine.proofs.MadeLines.{made_fit, made_many, made_within}
 use Rattle.clog_engine.proofs.drilling.plan_made.Goals as goal

@@ -5,7 +5,7 @@ use Rattle.path_core.specs.Keeper.{Holding}
 use Rattle.path_rule.specs.declared.view.PathSize.{PathSize}
 use Rattle.write_path.specs.Closed.{AreAll, StaysBeside}
 use Rattle.write_path.specs.Opened.{numbers_of}
-use Rattle.clog_writers.specs.Crews.{AreDealt}
+use Rattle.clog_shares.specs.Crews.{AreDealt}
 use Rattle.clog_writers.proofs.Apart.{stand_apart}
 use Rattle.clog_writers.proofs.Running.{
   all_numbers,

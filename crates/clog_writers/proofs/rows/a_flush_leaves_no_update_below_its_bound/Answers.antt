@@ -31,11 +31,11 @@ use Rattle.clog_notes.proofs.TableSets.{joined_holds}
 use Rattle.path_core.specs.declared.note.EntryNote.{EntryNote}
 use Rattle.path_rule.specs.declared.view.OwnStep.{OwnStep}
 use Rattle.write_path.specs.ClosedFiles.{HasRetired}
-use Rattle.clog_writers.specs.Shares.{AreWritesOf, IsWriteOf}
-use Rattle.clog_writers.specs.Tallied.{IsFlushedOver, IsTallied, updates_for}
+use Rattle.clog_shares.specs.Shares.{AreWritesOf, IsWriteOf}
+use Rattle.clog_shares.specs.Tallied.{IsFlushedOver, IsTallied, updates_for}
 use Rattle.clog_writers.specs.WorkedTally.{flushed_one, logged_one, the_line, the_note}
-use Rattle.clog_writers.proofs.Paying.{both_writes, more_updates}
-use Rattle.clog_writers.proofs.SameLines.{same_lines}
+use Rattle.clog_shares.proofs.Paying.{both_writes, more_updates}
+use Rattle.clog_shares.proofs.SameLines.{same_lines}
 use Rattle.clog_writers.proofs.WorkedUpdates.{some_update}
 use Rattle.clog_writers.proofs.rows.a_flush_leaves_no_update_below_its_bound.Goals as goal
 

@@ -33,7 +33,7 @@ use Rattle.clog_writers.proofs.Brought.{
 use Rattle.clog_writers.proofs.Crashing.{history, says}
 use Rattle.clog_writers.proofs.Ended.{written}
 use Rattle.clog_writers.proofs.LeftBy.{all_last, least_reached, left_by}
-use Rattle.clog_writers.proofs.Running.{written_back}
+use Rattle.clog_shares.proofs.WrittenBack.{written_back}
 use Rattle.clog_base.proofs.Follows.{if_ok}
 use Rattle.clog_writers.proofs.Told.{no_fewer, none_of, runs_on}
 use Rattle.clog_writers.proofs.writing.write_plan.Goals as goal

@@ -1,0 +1,17 @@
+pub mod Committing
+pub mod Timing
+pub mod Dealt
+pub mod LineWrites
+pub mod Seating
+pub mod Gathering
+pub mod UpdateCounts
+pub mod Lacking
+pub mod FlushTold
+pub mod Tallying
+pub mod NextLines
+pub mod SameLines
+pub mod Opening
+pub mod Paying
+pub mod TriedFlushes
+pub mod Keeping
+pub mod WrittenBack

@@ -1,0 +1,10 @@
+pub mod Fitting
+pub mod Shares
+pub mod Tallied
+pub mod Tallies
+pub mod Crews
+pub mod Sealing
+pub mod Timed
+pub mod Committed
+pub mod Planned
+pub mod LineWrites
