@@ -46,8 +46,8 @@ use Rattle.clog_applied.proofs.Whole.{with_report}
 use Rattle.write_path.specs.declared.commit.Receipt.{Receipt}
 use Rattle.clog_shares.specs.declared.fault.WriteFault.{WriteFault}
 use Rattle.clog_shares.specs.declared.fault.WriteFault.TheVariants as fault
-use Rattle.write_path.specs.declared.switch.Row.{Row}
-use Rattle.write_path.specs.declared.switch.Row.TheVariants as row
+use Rattle.path_flush.specs.declared.switch_answer.Row.{Row}
+use Rattle.path_flush.specs.declared.switch_answer.Row.TheVariants as row
 use Rattle.clog_writers.specs.Left.{least_of}
 use Rattle.clog_writers.specs.Logged.{IsLack}
 use Rattle.clog_writers.specs.Written.{

@@ -21,7 +21,7 @@ use Rattle.clog_folder.specs.declared.fault.OpenFault.TheVariants as refusal
 use Rattle.write_path.specs.declared.commit.Receipt.{Receipt}
 use Rattle.clog_shares.specs.declared.fault.WriteFault.{WriteFault}
 use Rattle.clog_shares.specs.declared.fault.WriteFault.TheVariants.{Rows, Spent, Stopped}
-use Rattle.write_path.specs.declared.switch.Row.TheVariants as row
+use Rattle.path_flush.specs.declared.switch_answer.Row.TheVariants as row
 use Rattle.clog_engine.specs.declared.report.PendingReport.{PendingReport}
 use Rattle.clog_engine.specs.declared.status.Status.{Status}
 use Rattle.clog_engine.specs.declared.status.Status.TheVariants.{

@@ -34,7 +34,7 @@ use Rattle.clog_mutation.specs.declared.mutation.Mutation.{Mutation}
 use Rattle.clog_applied.specs.History.{Line, share_of}
 use Rattle.path_rule.specs.declared.view.PathSize.{PathSize}
 use Rattle.path_table.specs.declared.trying.PathSeat.{PathSeat}
-use Rattle.write_path.specs.declared.switch.Row.{Row}
+use Rattle.path_flush.specs.declared.switch_answer.Row.{Row}
 use Rattle.clog_shares.specs.declared.fault.WriteFault.{WriteFault}
 use Rattle.clog_shares.specs.declared.fault.WriteFault.TheVariants.{Rows, Spent, Stopped}
 use Rattle.clog_shares.specs.declared.worker.Worker.{Worker}

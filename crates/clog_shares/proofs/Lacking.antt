@@ -28,8 +28,8 @@ use Rattle.write_path.specs.declared.commit.SyncFault.TheVariants.{
   OutOfMemory as NoMemory,
   Rows as NoRows,
 }
-use Rattle.write_path.specs.declared.switch.Row.{Row}
-use Rattle.write_path.specs.declared.switch.Row.TheVariants.{AppendGroups}
+use Rattle.path_flush.specs.declared.switch_answer.Row.{Row}
+use Rattle.path_flush.specs.declared.switch_answer.Row.TheVariants.{AppendGroups}
 use Rattle.clog_shares.specs.declared.fault.WriteFault.{WriteFault}
 use Rattle.clog_shares.specs.declared.fault.WriteFault.TheVariants.{
   OutOfMemory,

@@ -41,8 +41,8 @@ use Rattle.path_flush.specs.FlushSteps.{SwitchesNone}
 use Rattle.path_flush.specs.Grown.{HasGrown}
 use Rattle.write_path.specs.Receipts.{IsCommitted}
 use Rattle.write_path.specs.Syncs.{Syncs}
-use Rattle.write_path.proofs.StepsOpen.{none_opened, opens_both, others_open, round_opens}
-use Rattle.write_path.specs.Opens.{opens}
+use Rattle.path_flush.proofs.StepsOpen.{none_opened, opens_both, others_open, round_opens}
+use Rattle.path_flush.specs.Opens.{opens}
 use Rattle.clog_shares.specs.Tallied.{OpensNone}
 
 -- steps that open none, in front of others

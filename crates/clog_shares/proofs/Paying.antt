@@ -38,7 +38,7 @@ use Rattle.path_flush.specs.OwnWrites.{writes_of}
 use Rattle.path_flush.specs.Flushed.{Flushes}
 use Rattle.write_path.specs.Writes.{IsPrepared}
 use Rattle.clog_shares.specs.declared.fault.WriteFault.{WriteFault}
-use Rattle.write_path.specs.Opens.{opens}
+use Rattle.path_flush.specs.Opens.{opens}
 use Rattle.clog_shares.specs.Shares.{
   AddsWrite,
   AreWritesOf,

@@ -62,7 +62,7 @@ use Rattle.write_path.proofs.FlushPromises.{still_flushed}
 use Rattle.clog_shares.specs.declared.tally.LineCounts.{LineCounts}
 use Rattle.clog_shares.specs.declared.tally.UpdateTally.{UpdateTally}
 use Rattle.clog_shares.specs.Shares.{AddsWrite, is_finished, refusal_by}
-use Rattle.write_path.specs.Opens.{opens}
+use Rattle.path_flush.specs.Opens.{opens}
 use Rattle.clog_shares.specs.Tallied.{
   ArePaid,
   HasFlushedAll,

@@ -9,7 +9,7 @@ use Rattle.path_table.specs.Members.{view_of}
 use Rattle.sync_core.specs.declared.SyncCore.{SyncCore}
 use Rattle.sync_core.specs.declared.SyncCore.TheVariants.{Batch, Periodic}
 use Rattle.write_path.specs.declared.prepared.Prepared.{Prepared}
-use Rattle.write_path.specs.Tries.{Stays}
+use Rattle.path_flush.specs.Seats.{Stays}
 use Rattle.clog_shares.specs.declared.fault.WriteFault.{WriteFault}
 use Rattle.clog_shares.specs.Crews.{KnowsWhy, MayLack}
 use Rattle.clog_shares.specs.Sealing.{HasWaited}

@@ -30,8 +30,8 @@ use Rattle.path_rule.specs.declared.view.OwnStep.{OwnStep}
 use Rattle.path_table.specs.declared.trying.PathSeat.{PathSeat}
 use Rattle.path_table.specs.Members.{view_of}
 use Rattle.write_path.specs.ClosedFiles.{HasRetired}
-use Rattle.write_path.specs.Ends.{writes_of}
-use Rattle.write_path.specs.Opens.{opens}
+use Rattle.path_flush.specs.OwnWrites.{writes_of}
+use Rattle.path_flush.specs.Opens.{opens}
 use Rattle.clog_shares.specs.declared.tally.LineCounts.{LineCounts}
 use Rattle.clog_shares.specs.Shares.{AreWritesOf, logged_by}
 

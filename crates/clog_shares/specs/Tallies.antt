@@ -20,7 +20,7 @@ use Rattle.path_core.specs.declared.event.Place.TheVariants.{TurnWord}
 use Rattle.path_core.specs.declared.event.Turn.TheVariants.{Flush as FlushTurn}
 use Rattle.path_rule.specs.declared.view.OwnStep.{OwnStep}
 use Rattle.path_rule.specs.Calls.{FoundSince}
-use Rattle.write_path.specs.Ends.{writes_of}
+use Rattle.path_flush.specs.OwnWrites.{writes_of}
 use Rattle.clog_shares.specs.declared.tally.LineCounts.{LineCounts}
 use Rattle.clog_shares.specs.declared.tally.UpdateTally.{UpdateTally}
 use Rattle.clog_shares.specs.Tallied.{IsTallied}

@@ -44,7 +44,7 @@ use Rattle.path_rule.specs.declared.view.PathSize.{PathSize}
 use Rattle.path_table.specs.declared.trying.PathSeat.{PathSeat}
 use Rattle.path_table.specs.Members.{view_of}
 use Rattle.write_path.specs.Closed.{IsOutcome, all_writes}
-use Rattle.write_path.specs.Ends.{writes_of}
+use Rattle.path_flush.specs.OwnWrites.{writes_of}
 use Rattle.clog_shares.specs.declared.fault.WriteFault.{WriteFault}
 use Rattle.clog_shares.specs.Crews.{HaveEnded, HasEnded}
 use Rattle.clog_writers.specs.Logged.{is_note_of}

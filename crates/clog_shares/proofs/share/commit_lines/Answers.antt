@@ -20,7 +20,7 @@ use Rattle.path_core.specs.declared.note.EntryNote.{EntryNote}
 use Rattle.path_rule.specs.declared.view.OwnStep.{OwnStep}
 use Rattle.path_table.specs.Members.{view_of}
 use Rattle.write_path.specs.declared.prepared.Prepared.{Prepared}
-use Rattle.write_path.specs.Ends.{writes_of}
+use Rattle.path_flush.specs.OwnWrites.{writes_of}
 use Rattle.clog_shares.specs.declared.fault.WriteFault.{WriteFault}
 use Rattle.clog_shares.specs.Crews.{KnowsWhy, MayLack}
 use Rattle.clog_shares.specs.Shares.{AddsWrite, ArePrepared, MayAddWrite, logged_by}

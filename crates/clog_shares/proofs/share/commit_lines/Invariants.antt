@@ -2,8 +2,8 @@ use Rattle.std.proofs.Common.{◌≡◌, ℕ, List, length}
 use Rattle.clog_applied.specs.History.{Line}
 use Rattle.path_table.specs.Members.{view_of}
 use Rattle.sync_core.specs.declared.SyncCore.TheVariants.{Batch, Periodic}
-use Rattle.write_path.specs.Ends.{writes_of}
-use Rattle.write_path.specs.Tries.{Stays}
+use Rattle.path_flush.specs.OwnWrites.{writes_of}
+use Rattle.path_flush.specs.Seats.{Stays}
 use Rattle.clog_shares.specs.Sealing.{HasSealed}
 use Rattle.clog_shares.specs.Shares.{ArePrepared, logged_by}
 use Rattle.clog_shares.specs.Timed.{AreTimed}
