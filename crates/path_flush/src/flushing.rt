@@ -137,7 +137,28 @@ fn flush_taken<K: Keeper, A: Allocator, R: Wait>(
     unreachable!()
 }
 
-/// Flushes a table's memtable, as `WritePath::flush` of write_path tells.
+/// Flushes a table's memtable (`ColumnFamilyStore.Flush`), over a path that is opened for table
+/// files: what was live until then takes no write that begins later, and goes to a table file, if
+/// something was written to it. The seat's list is as it was.
+///
+/// By `Flushed` and `Empty` the upper key was set in this call as the memtable's final bound, at or
+/// above each write of that list, and a step of this call retired the memtable. `Empty`: the seat
+/// saw nothing in the boxes of all seats, and nothing is placed in the memtable. `Flushed` has the
+/// interval of the table file: the step gave the lower key, something was seen, and something is
+/// placed in the memtable. `Stopped` has the keeper's count of faults at its opening and the one
+/// that the log tells, as it was found or put in this call. `Busy` has what was found in the
+/// table's turn word; the seat only looked. `Rows` has the row of words of which a further one is
+/// wanted, and how many are in use; where it is one of memtables or of the write order, no memtable
+/// was switched. Where it is one of memtables, that memtable was found to be the only one in use;
+/// where it is one of the write order, there was a word for the next memtable; where it is one of
+/// the append order, the log was found running. Behind `Rows` and `OutOfMemory` a memtable that the
+/// call had made final waits for the next flush, which begins with it; behind `Stopped` it does, or
+/// the keeper stopped behind its table file. What it switches it had found as the only one in use:
+/// a memtable that an earlier call left has gone before. The call opens at most one memtable, which
+/// is of the table: none by `Busy`, and by `Rows` of memtables or of the write order.
+///
+/// Others sync, and flush other tables, while the cells of the table file are gathered; while the
+/// file is put they wait. No clause says that it returns.
 pub fn flush_memtable<K: Keeper, A: Allocator, R: Wait>(
     path: &PathTable<K, A>,
     rt: &R,

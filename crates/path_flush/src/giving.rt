@@ -10,7 +10,7 @@ use path_core::Keeper;
 use path_table::{Member, PathSeat, PathTable};
 use std::alloc::Allocator;
 
-// Gives the Sync turn back, and the desk with it.
+/// Gives the Sync turn back, and the desk with it. The seat is idle again.
 pub fn give_sync_turn<K: Keeper, A: Allocator>(
     path: &PathTable<K, A>,
     member: Member<K>,
@@ -27,7 +27,7 @@ pub fn give_sync_turn<K: Keeper, A: Allocator>(
     PathSeat { member }
 }
 
-// Gives a table's Flush turn back.
+/// Gives a table's Flush turn back. The seat is idle again.
 pub fn give_flush_turn<K: Keeper, A: Allocator>(
     path: &PathTable<K, A>,
     member: Member<K>,

@@ -1,7 +1,7 @@
 //! Switches and flushes of a table's memtable (`ColumnFamilyStore.Flush`), over the table of words
-//! and boxes that seats share: a seat takes the table's Flush turn and beside it the Sync turn, makes
-//! the newest memtable final, waits for its barrier, and reads what lies in it; a flush has the
-//! keeper put its table file. `WritePath` of write_path offers both.
+//! and boxes that seats share: a seat takes the table's Flush turn and beside it the Sync turn,
+//! makes the newest memtable final, waits for its barrier, and reads what lies in it; a flush has
+//! the keeper put its table file.
 #![tactic(auto)]
 
 mod flush_answer;

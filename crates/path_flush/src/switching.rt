@@ -112,7 +112,18 @@ fn switch_newest<K: Keeper, A: Allocator, R: Wait>(
     }
 }
 
-/// Switches a table's memtable, as `WritePath::switch` of write_path tells.
+/// Switches a table's memtable: what was live until then takes no write that begins later
+/// (`ColumnFamilyStore.Flush`, before it writes). The bound of the old memtable, the log key up to
+/// which it takes entries, was set in this call, at or above each write of the seat's list, which
+/// is as it was. Then the call waits until each write that was begun before is through, and looks
+/// whether the memtable holds something. `Empty` carries the bound, in keys of the log: nothing was
+/// seen in the boxes of all seats, and the memtable is retired. `Left` carries it too: the memtable
+/// is left behind its barrier, for the flush that is to put its table file. `Waits` has the number
+/// of a memtable that an earlier switch left, behind which nothing is switched. `Busy` has what was
+/// found in the table's turn word; the seat only looked. `Rows` has the row of words of which a
+/// further one is wanted, and how many are in use; nothing was switched. The call opens at most one
+/// memtable, which is of the table: none but by `Empty` and `Left`. It takes no memory. No clause
+/// says that it returns.
 pub fn switch_memtable<K: Keeper, A: Allocator, R: Wait>(
     path: &PathTable<K, A>,
     rt: &R,

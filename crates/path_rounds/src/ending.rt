@@ -22,7 +22,7 @@ use std::alloc::Allocator;
 /// at or above where it does behind the marker. After each answer the turn may be given back,
 /// and after a refusal all is pending still. It makes two steps at most, of which at most one
 /// is no look.
-pub(crate) fn end_sync<K: Keeper, A: Allocator>(
+pub fn end_sync<K: Keeper, A: Allocator>(
     path: &PathTable<K, A>,
     member: Member<K>,
     upto: u64,

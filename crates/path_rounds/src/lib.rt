@@ -14,5 +14,9 @@ mod waiting;
 mod words;
 
 pub use advancing::{Advance, try_advance};
-pub use rounding::sync_round;
-pub use waiting::{Holder, pass_all, write_barrier};
+pub use ending::end_sync;
+pub use marking::claim_next;
+pub use round_ends::end_round;
+pub use rounding::{bar_round, sync_round};
+pub use sweeping::{gather_all, settle};
+pub use waiting::{Holder, marker_barrier, pass_all, write_barrier};

@@ -123,7 +123,7 @@ fn claim_once<K: Keeper, A: Allocator>(
 /// Claims the next marker, unless no entry was claimed since the last one, and notes it on the
 /// desk. The log was found running. It tries again while the log moves, and no clause says that
 /// it returns.
-pub(crate) fn claim_next<K: Keeper, A: Allocator, R: Wait>(
+pub fn claim_next<K: Keeper, A: Allocator, R: Wait>(
     path: &PathTable<K, A>,
     rt: &R,
     member: Member<K>,

@@ -75,7 +75,7 @@ pub(crate) fn look_halted<K: Keeper, A: Allocator>(
 /// Brings a sync up to the last marker to its end, where the log is found running. All that the
 /// seat wrote ends at or below that marker. Done: the log goes on behind the synced key at or
 /// above where it does behind the marker.
-pub(crate) fn end_round<K: Keeper, A: Allocator>(
+pub fn end_round<K: Keeper, A: Allocator>(
     path: &PathTable<K, A>,
     member: Member<K>,
     upto: u64,

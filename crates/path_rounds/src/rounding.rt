@@ -27,7 +27,7 @@ use std::sync::Wait;
 /// Issues the barrier of the seat's own marker, which is the last one, waits until it is
 /// passed, gathers all boxes behind it, and ends the sync. The seat has found the log running,
 /// and the current group.
-pub(crate) fn bar_round<K: Keeper, A: Allocator, R: Wait>(
+pub fn bar_round<K: Keeper, A: Allocator, R: Wait>(
     path: &PathTable<K, A>,
     rt: &R,
     alloc: Global,

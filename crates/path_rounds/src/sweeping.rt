@@ -57,7 +57,7 @@ fn gather_box<K: Keeper, A: Allocator>(
 /// Gathers the boxes of all seats behind the passed barrier before the current group, and notes
 /// on the desk that they are. It waits while the barrier is not found passed, and no clause
 /// says that it returns.
-pub(crate) fn gather_all<K: Keeper, A: Allocator, R: Wait>(
+pub fn gather_all<K: Keeper, A: Allocator, R: Wait>(
     path: &PathTable<K, A>,
     rt: &R,
     alloc: Global,
@@ -101,7 +101,7 @@ pub(crate) fn gather_all<K: Keeper, A: Allocator, R: Wait>(
 }
 
 /// Waits until the last barrier of the append order is passed, and gathers all boxes behind it.
-pub(crate) fn settle<K: Keeper, A: Allocator, R: Wait>(
+pub fn settle<K: Keeper, A: Allocator, R: Wait>(
     path: &PathTable<K, A>,
     rt: &R,
     alloc: Global,

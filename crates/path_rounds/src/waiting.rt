@@ -183,7 +183,7 @@ pub fn pass_all<K: Keeper, A: Allocator, R: Wait>(
 /// until it is passed: then the boxes of the groups up to `current` may be gathered. The boxes
 /// of the barrier before it have to be. The member has found the log running and this group
 /// current, and there is a word for the next one. No clause says that it returns.
-pub(crate) fn marker_barrier<K: Keeper, A: Allocator, R: Wait>(
+pub fn marker_barrier<K: Keeper, A: Allocator, R: Wait>(
     path: &PathTable<K, A>,
     rt: &R,
     holder: Holder<K>,

@@ -1,4 +1,4 @@
-//! What the words of groups may hold.
+//! The mark of an expired group in the word of its count, and how many groups have a word.
 
 /// The highest bit of a count, which marks an expired group.
 pub(crate) const EXPIRED: u64 = 0x8000_0000_0000_0000;

@@ -56,8 +56,5 @@ pub(crate) const APPEND_COUNTS: usize = 73;
 /// The highest bit of a count, which marks an expired group.
 pub(crate) const EXPIRED: u64 = 0x8000_0000_0000_0000;
 
-/// The last group of an order that there is a word for.
-pub(crate) const LAST_GROUP: u64 = 65_535;
-
 /// Where the log begins, in the first segment.
 pub(crate) const FIRST_KEY: u64 = 28;

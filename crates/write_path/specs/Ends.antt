@@ -1,4 +1,4 @@
--- How a write ends, and the list of a seat's own writes.
+-- How a write ends, and what it adds to its seat's list.
 use Rattle.std.specs.Prelude.{
   ◌≡◌,
   ℕ,

@@ -1,5 +1,4 @@
-//! Where the log goes on behind a claim: the rule of allocation. And where it goes on behind the
-//! synced key.
+//! Where the log goes on behind a claim: the rule of allocation.
 ghost use Rattle.std.specs.Prelude.{◌≡◌, ◌/◌, ◌<◌, ◌≤◌, IfSome, IsNone};
 ghost use Rattle.path_core.specs.declared.event.ClaimKind.TheVariants.{Entry};
 ghost use Rattle.path_core.specs.Keys.{MovesLog, claimed_size, entry_end, ordinal_of};
@@ -8,9 +7,6 @@ use path_rule::PathSize;
 
 /// The bytes of a segment's header and of its first marker.
 const FIRST_OFFSET: u64 = 28;
-
-/// The bytes of a marker.
-const MARKER_SIZE: u64 = 8;
 
 /// How many keys a segment has.
 const SEGMENT_KEYS: u64 = 0x8000_0000;
