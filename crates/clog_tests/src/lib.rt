@@ -1,5 +1,6 @@
-//! Tests of the engine, and of a path over a store, through their public calls. They stand in a crate
-//! of their own, since a crate that has tests is proved a second time with them.
+//! Tests of lines that writers log over a disk in memory, of the engine, and of a path over a store,
+//! through their public calls. They stand in a crate of their own, since a crate that has tests is
+//! proved a second time with them.
 #![tactic(auto)]
 
 #[cfg(test)]
@@ -11,6 +12,14 @@ mod engine;
 #[cfg(test)]
 mod halting;
 #[cfg(test)]
+mod lines;
+#[cfg(test)]
+mod logged;
+#[cfg(test)]
 mod over_a_store;
 #[cfg(test)]
 mod pair;
+#[cfg(test)]
+mod payloads;
+#[cfg(test)]
+mod writers;

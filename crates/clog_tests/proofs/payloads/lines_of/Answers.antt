@@ -2,7 +2,7 @@ use Rattle.std.proofs.Common.{subst, sym}
 use Rattle.std.specs.List.{AllByRecursion}
 use Rattle.clog_base.proofs.Members.{all_more}
 use Rattle.clog_mutation.specs.Limits.{IsWithinLimits}
-use Rattle.clog_writers_tests.proofs.payloads.lines_of.Goals as goal
+use Rattle.clog_tests.proofs.payloads.lines_of.Goals as goal
 
 pub loop-payload-preserved : goal.loop-payload-preserved
 loop-payload-preserved c =
