@@ -1,32 +1,9 @@
 -- Of a segment that a keeper may drop each cell lies in a table file of the folder.
-use Rattle.std.proofs.Common.{
-  ◌≡◌,
-  ℕ,
-  ◌+◌,
-  ◌<◌,
-  ◌≤◌,
-  true,
-  List,
-  ◌++◌,
-  length,
-  take,
-  drop,
-  sym,
-  ap,
-  subst,
-  ◌∙◌,
-  inl,
-  inr,
-  arith,
-}
+use Rattle.std.proofs.Common.{◌≡◌, ℕ, ◌+◌, ◌<◌, ◌≤◌, true, sym, ap, subst, ◌∙◌, inl, inr, arith}
 use Rattle.std.specs.Prelude.{◌&&◌, Contains}
-use Rattle.std.specs.Int.{to_be_bytes, w32}
 use Rattle.std.proofs.lemmas.Bool.{cases_lt, eq-eqb}
 use Rattle.std.proofs.lemmas.List.Elements.{Contains-append_cases}
-use Rattle.std.proofs.Math.Seq.{drop-append_seam, take-append_seam}
-use Rattle.clog_spec.specs.Crc.{crc32_of}
-use Rattle.clog_spec.specs.Segment.{entry_bytes, entry_front, size_bytes}
-use Rattle.clog_spec.proofs.Lengths.{length-entry_bytes}
+use Rattle.clog_spec.proofs.Payloads.{same_payload}
 use Rattle.clog_base.specs.declared.cell.Cell.{Cell}
 use Rattle.clog_base.specs.declared.cell.CellKey.{CellKey}
 use Rattle.clog_base.specs.declared.cell.Table.{Table}
@@ -138,19 +115,6 @@ up_to_key_from base a b up_to = elim up_to [
   | inl lower ↦ omega (arith, lower)
   | inr same ↦ omega (arith, same.0, same.1)
 ]
-
-payload_back : (p : List ℕ) → take (length p) (drop 8 (entry_bytes p)) ≡ p
-payload_back p =
-    let check = to_be_bytes w32 (crc32_of (size_bytes p ++ p)) in
-    ap (take (length p)) (drop-append_seam (entry_front (length p)) (p ++ check))
-    ∙ take-append_seam p check
-
-same_payload : (p q : List ℕ) → entry_bytes p ≡ entry_bytes q → p ≡ q
-same_payload p q same =
-    let size : length p ≡ length q =
-    omega (arith, length-entry_bytes p, length-entry_bytes q, ap length same) in
-    sym (payload_back p) ∙ ap (λ (n : ℕ). take n (drop 8 (entry_bytes p))) size
-    ∙ ap (λ (b : List ℕ). take (length q) (drop 8 b)) same ∙ payload_back q
 
 module _ (h : Holding) (f : PutFile) (r : Reading) (all : IsAllOnDisk h r)
     (may : MayPublish h f) where

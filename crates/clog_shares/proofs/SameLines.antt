@@ -1,25 +1,7 @@
 -- A writer's notes are those of one list of lines alone.
-use Rattle.std.proofs.Common.{
-  ◌≡◌,
-  List,
-  [],
-  ◌∷◌,
-  ◌++◌,
-  ℕ,
-  drop,
-  length,
-  take,
-  refl,
-  sym,
-  ap,
-  ◌∙◌,
-  arith,
-}
-use Rattle.std.specs.Int.{to_be_bytes, w32}
-use Rattle.std.proofs.Math.Seq.{drop-append_seam, take-append_seam}
-use Rattle.clog_spec.specs.Crc.{crc32_of}
-use Rattle.clog_spec.specs.Segment.{entry_bytes, entry_front, size_bytes}
-use Rattle.clog_spec.proofs.Lengths.{length-entry_bytes}
+use Rattle.std.proofs.Common.{◌≡◌, List, [], ◌∷◌, ℕ, refl, sym, ◌∙◌, arith}
+use Rattle.clog_spec.specs.Segment.{entry_bytes}
+use Rattle.clog_spec.proofs.Payloads.{same_payload}
 use Rattle.clog_mutation.specs.declared.mutation.Mutation.{Mutation}
 use Rattle.clog_mutation.specs.Payload.{payload_of}
 use Rattle.clog_mutation.proofs.Decoding.{one_mutation}
@@ -31,20 +13,6 @@ use Rattle.clog_shares.specs.Shares.{AreWritesOf, IsWriteOf}
 pub entry_is : (m : Mutation) → entry_of m ≡ entry_bytes (payload_of m)
 unfolding entry_of
 entry_is m = refl
-
--- the payload that stands in an entry's bytes
-payload_back : (p : List ℕ) → take (length p) (drop 8 (entry_bytes p)) ≡ p
-payload_back p =
-    let check = to_be_bytes w32 (crc32_of (size_bytes p ++ p)) in
-    ap (take (length p)) (drop-append_seam (entry_front (length p)) (p ++ check))
-    ∙ take-append_seam p check
-
-same_payload : (p q : List ℕ) → entry_bytes p ≡ entry_bytes q → p ≡ q
-same_payload p q same =
-    let size : length p ≡ length q =
-    omega (arith, length-entry_bytes p, length-entry_bytes q, ap length same) in
-    sym (payload_back p) ∙ ap (λ (n : ℕ). take n (drop 8 (entry_bytes p))) size
-    ∙ ap (λ (b : List ℕ). take (length q) (drop 8 b)) same ∙ payload_back q
 
 same_line : (w : ℕ) (l k : Line) (n : EntryNote) → IsWriteOf w l n → IsWriteOf w k n → l ≡ k
 same_line w l k n a b =

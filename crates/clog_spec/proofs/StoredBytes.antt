@@ -29,8 +29,8 @@ header-IsBytes id =
     append-IsBytes (header_front id) check
     (append-IsBytes (version ++ number ++ two) (codes "{}")
     (append-IsBytes (version ++ number) two
-    (append-IsBytes version number (number-IsBytes 6) (long_number id)) (short_number 2)) braces-IsBytes)
-    (number-IsBytes (crc32_of (header_checked id)))
+    (append-IsBytes version number (number-IsBytes 6) (long_number id)) (short_number 2))
+    braces-IsBytes) (number-IsBytes (crc32_of (header_checked id)))
 
 pub marker-IsBytes : (id at end : ℕ) → IsBytes (marker_bytes id at end)
 marker-IsBytes id at end =

@@ -12,12 +12,9 @@ ghost use Rattle.path_flush.specs.Seats.{Stays};
 use clog_base::{Key, Table};
 use path_core::{Keeper, Order};
 use path_rounds::{Holder, write_barrier};
-use path_table::{Member, PathTable};
+use path_table::{LAST_GROUP, Member, PathTable};
 use std::alloc::Allocator;
 use std::sync::Wait;
-
-// The last group that there is a word for.
-const LAST_GROUP: u64 = 65_535;
 
 // Makes the next memtable, and the newest one so far final. Returns its bound: all that the
 // seat wrote ends at or below it.

@@ -1,10 +1,10 @@
 //! A flush of a table's memtable (`ColumnFamilyStore.Flush`). The seat takes the table's Flush
-//! turn, which it holds until it is idle again. A memtable that an earlier flush or switch left goes
-//! first. With the Sync turn beside it the newest one is switched, and the barrier waited for. The
-//! Sync turn is given back while what lies in the boxes of all seats is gathered, and taken anew
-//! behind that. Where something lay there the log is made lasting up to the memtable's bound, with
-//! that turn given up and taken between rounds, and the keeper puts a table file; the memtable is
-//! retired, and segments that files hold go. Then the seat gives both turns back.
+//! turn, which it holds until it is idle again. A memtable that an earlier flush or switch left
+//! goes first. With the Sync turn beside it the newest one is switched, and the barrier waited for.
+//! The Sync turn is given back while what lies in the boxes of all seats is gathered, and taken
+//! anew behind that. Where something lay there the log is made lasting up to the memtable's bound,
+//! with that turn given up and taken between rounds, and the keeper puts a table file; the memtable
+//! is retired, and segments that files hold go. Then the seat gives both turns back.
 ghost use Rattle.std.specs.Prelude.{◌≡◌, ◌+◌, ◌<◌, ℕ, true, Some, MatchResult};
 ghost use Rattle.path_core.specs.declared.seat.Switching.TheVariants.{Settled};
 ghost use Rattle.path_core.specs.Parts.{stage_of};
@@ -25,12 +25,9 @@ use crate::switch_answer::Row;
 use crate::switching::leave_table;
 use clog_base::Table;
 use path_core::Keeper;
-use path_table::{Member, PathSeat, PathTable};
+use path_table::{GROUPS, Member, PathSeat, PathTable};
 use std::alloc::{Allocator, Global};
 use std::sync::Wait;
-
-// How many groups of the write order there are words for.
-const GROUPS: u64 = 65_536;
 
 // Switches the newest memtable, which was found to be the only one in use, and retires it.
 fn flush_newest<K: Keeper, A: Allocator, R: Wait>(

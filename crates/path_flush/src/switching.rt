@@ -1,7 +1,7 @@
 //! A switch of a table's memtable (`ColumnFamilyStore.Flush`, before it writes). The seat takes the
 //! table's Flush turn, and beside it the Sync turn; it makes the next memtable, and the newest one
-//! so far final; it waits for the barrier, and looks into the boxes of all seats. Then it gives both
-//! turns back, and is idle again.
+//! so far final; it waits for the barrier, and looks into the boxes of all seats. Then it gives
+//! both turns back, and is idle again.
 ghost use Rattle.std.specs.Prelude.{◌≡◌, ◌+◌, ◌<◌, ℕ, None, Some};
 ghost use Rattle.path_core.specs.declared.seat.Switching.TheVariants.{Settled};
 ghost use Rattle.path_core.specs.Parts.{stage_of};
@@ -22,12 +22,9 @@ use crate::giving::give_flush_turn;
 use crate::switch_answer::{Row, Switch};
 use clog_base::{Key, Table};
 use path_core::Keeper;
-use path_table::{Member, PathSeat, PathTable};
+use path_table::{GROUPS, Member, PathSeat, PathTable};
 use std::alloc::{Allocator, Global};
 use std::sync::Wait;
-
-// How many groups of the write order there are words for.
-const GROUPS: u64 = 65_536;
 
 // Gives the table's turn back, where no switch was begun.
 pub(crate) fn leave_table<K: Keeper, A: Allocator>(

@@ -1,5 +1,21 @@
 -- A try to move the oldest group on: what it found at its three looks, and its step behind them.
-use Rattle.std.proofs.Common.{◌≡◌, ◌≢◌, ℕ, suc, ◌^◌, List, ◌∷◌, length, refl, sym, ap, ◌∙◌, subst, arith, None}
+use Rattle.std.proofs.Common.{
+  ◌≡◌,
+  ◌≢◌,
+  ℕ,
+  suc,
+  ◌^◌,
+  List,
+  ◌∷◌,
+  length,
+  refl,
+  sym,
+  ap,
+  ◌∙◌,
+  subst,
+  arith,
+  None,
+}
 use mathlib.Core.Logic.{inl, inr}
 use Rattle.op_core.specs.declared.count.Order.{Order}
 use Rattle.path_core.specs.declared.event.Event.{Event}

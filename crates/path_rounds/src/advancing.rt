@@ -7,10 +7,9 @@ ghost use Rattle.path_table.specs.Members.{view_of, hands_of, IsOf, KeepsSizes};
 ghost use Rattle.path_rounds.specs.Passes.{HasMovedOn, MatchAdvance, RunsStill};
 
 use crate::waiting::advance;
-use crate::words::EXPIRED;
 use op_core::Order;
 use path_core::Keeper;
-use path_table::{Member, PathTable};
+use path_table::{EXPIRED, Member, PathTable};
 use std::alloc::Allocator;
 
 /// What a try to move the oldest group on answers.

@@ -1,8 +1,7 @@
 //! A sync is brought to its end, in the hand of the holder of the Sync turn.
-ghost use Rattle.std.specs.Prelude.{◌≡◌, ◌≤◌, true, Some, IfOk, OnOk, OnErr};
+ghost use Rattle.std.specs.Prelude.{◌≡◌, ◌≤◌, true, IfOk, OnOk, OnErr};
 ghost use Rattle.std.specs.List.Sorted.{IsPermutation};
 ghost use Rattle.atomic_table.specs.Table.{rest};
-ghost use Rattle.path_core.specs.declared.seat.SyncTurn.{SyncTurn};
 ghost use Rattle.path_core.specs.Keys.{after, behind_marker};
 ghost use Rattle.path_rule.specs.Calls.{MayGive, IsSyncedTo};
 ghost use Rattle.path_rule.specs.Lasts.{shows_of};

@@ -11,10 +11,10 @@ mod round_ends;
 mod rounding;
 mod sweeping;
 mod waiting;
-mod words;
 
 pub use advancing::{Advance, try_advance};
 pub use ending::end_sync;
+pub use marker_keys::{FIRST_OFFSET, SEGMENT_KEYS, key_behind_marker};
 pub use marking::claim_next;
 pub use round_ends::end_round;
 pub use rounding::{bar_round, sync_round};

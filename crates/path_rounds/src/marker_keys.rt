@@ -1,17 +1,18 @@
 //! Where the log goes on behind a marker: in its segment, or in the next one where the marker does
 //! not fit.
-ghost use Rattle.std.specs.Prelude.{◌≡◌, ◌↔◌, ◌<◌, ◌≤◌, ◌^◌, IsTrue};
+ghost use Rattle.std.specs.Prelude.{◌≡◌, ◌↔◌, ◌<◌, ◌^◌, IsTrue};
 ghost use Rattle.path_core.specs.Holders.{behind_last};
 ghost use Rattle.path_core.specs.Keys.{behind_marker, fits, marker_size};
 
+use clog_base::FRONT_SIZE;
 use path_core::LastMarker;
 
 /// The bytes of a segment's header and of its first marker.
-const FIRST_OFFSET: u64 = 28;
-/// The bytes of a marker.
-const MARKER_SIZE: u64 = 8;
+pub const FIRST_OFFSET: u64 = FRONT_SIZE as u64;
 /// How many keys a segment has.
-const SEGMENT_KEYS: u64 = 0x8000_0000;
+pub const SEGMENT_KEYS: u64 = 0x8000_0000;
+/// The bytes of a marker.
+const MARKER_SIZE: u64 = clog_base::MARKER_SIZE as u64;
 
 // Whether a marker fits the segment of a key.
 fn fits_marker(capacity: u64, key: u64) -> bool
@@ -21,7 +22,7 @@ fn fits_marker(capacity: u64, key: u64) -> bool
 }
 
 /// The log key behind a marker that starts at a key.
-pub(crate) fn key_behind_marker(capacity: u64, key: u64) -> u64
+pub fn key_behind_marker(capacity: u64, key: u64) -> u64
     requires { key < 2 ^ 62 }
     ensures { result ≡ behind_marker capacity key }
 {

@@ -25,10 +25,9 @@ ghost use Rattle.path_table.specs.Members.{
 };
 
 use crate::marker_keys::{is_entry_since, key_behind_marker};
-use crate::words::LAST_GROUP;
 use path_core::{Keeper, LastMarker};
 use path_rule::{Progress, SyncAnswer};
-use path_table::{Member, PathTable};
+use path_table::{GROUPS, Member, PathTable};
 use std::alloc::Allocator;
 use std::sync::Wait;
 use std::thread::yield_now;
@@ -65,7 +64,7 @@ pub(crate) fn look_since<K: Keeper, A: Allocator>(
         → key ≤ behind_last path.now.size.capacity marker }
 {
     let log = path.look_log(member);
-    is_entry_since(path.size.capacity, marker, log)
+    is_entry_since(path.size().capacity, marker, log)
 }
 
 // What a sync is answered where the last group that there is a word for is current: `Rows`, if
@@ -83,8 +82,8 @@ pub(crate) fn look_full<K: Keeper, A: Allocator>(
     ensures hands { hands_of member.new ≡ hands_of member.old }
 {
     let log = path.look_log(member);
-    if is_entry_since(path.size.capacity, marker, log) {
-        Some(SyncAnswer::Rows(LAST_GROUP + 1))
+    if is_entry_since(path.size().capacity, marker, log) {
+        Some(SyncAnswer::Rows(GROUPS))
     } else {
         None
     }
@@ -109,10 +108,10 @@ fn claim_once<K: Keeper, A: Allocator>(
     ensures current { KeepsCurrent Append (part_of member.old) (part_of member.new) }
 {
     let from = path.look_log(member);
-    if !is_entry_since(path.size.capacity, marker, from) {
+    if !is_entry_since(path.size().capacity, marker, from) {
         return MarkerClaim::NoEntry;
     }
-    let to = key_behind_marker(path.size.capacity, from);
+    let to = key_behind_marker(path.size().capacity, from);
     if path.claim_marker(member, from, to) == from {
         MarkerClaim::Claimed(from)
     } else {
@@ -147,7 +146,7 @@ pub fn claim_next<K: Keeper, A: Allocator, R: Wait>(
     for _ in rt.forever() {
         match claim_once(path, &mut member, progress.marker) {
             MarkerClaim::Claimed(start) => {
-                let told = progress_with(progress, member.number, start, None);
+                let told = progress_with(progress, member.number(), start, None);
                 return (path.note_progress(member, told), Some(start));
             }
             MarkerClaim::NoEntry => return (member, None),

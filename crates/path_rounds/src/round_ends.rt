@@ -64,7 +64,7 @@ pub(crate) fn look_halted<K: Keeper, A: Allocator>(
     ensures hands { hands_of member.new ≡ hands_of member.old }
 {
     let now = path.look_stopped(member);
-    let at_open = path.size.at_open;
+    let at_open = path.size().at_open;
     if now > 0 {
         Some(SyncAnswer::Stopped { at_open, now })
     } else {
@@ -99,7 +99,7 @@ pub fn end_round<K: Keeper, A: Allocator>(
 {
     let mut member = member;
     let now = path.look_stopped(&mut member);
-    let at_open = path.size.at_open;
+    let at_open = path.size().at_open;
     if now > 0 {
         return (member, SyncAnswer::Stopped { at_open, now });
     }
@@ -128,7 +128,7 @@ fn first_round<K: Keeper, A: Allocator>(
 {
     let mut member = member;
     let now = path.look_stopped(&mut member);
-    let at_open = path.size.at_open;
+    let at_open = path.size().at_open;
     if now > 0 {
         return (member, SyncAnswer::Stopped { at_open, now });
     }

@@ -16,11 +16,10 @@ use crate::marking::{claim_next, look_full, look_since, progress_with};
 use crate::round_ends::{end_round, look_halted, old_round};
 use crate::sweeping::settle;
 use crate::waiting::{Holder, marker_barrier};
-use crate::words::LAST_GROUP;
 use op_core::Order;
 use path_core::Keeper;
 use path_rule::{Progress, SyncAnswer};
-use path_table::{Member, PathTable};
+use path_table::{LAST_GROUP, Member, PathTable};
 use std::alloc::{Allocator, Global};
 use std::sync::Wait;
 
@@ -58,7 +57,7 @@ pub fn bar_round<K: Keeper, A: Allocator, R: Wait>(
     let (member, progress) = path.progress(member);
     let holder = marker_barrier(path, rt, Holder { member }, current);
     let Holder { member } = holder;
-    let told = progress_with(progress, member.number, start, Some(current));
+    let told = progress_with(progress, member.number(), start, Some(current));
     let member = path.note_progress(member, told);
     let member = settle(path, rt, alloc, member, told);
     end_round(path, member, start)

@@ -82,7 +82,7 @@ pub fn gather_all<K: Keeper, A: Allocator, R: Wait>(
     let mut member = member;
     let mut swept = 0;
     for _ in rt.forever() {
-        if swept == path.size.seats {
+        if swept == path.size().seats {
             let done = Progress {
                 gathered: true,
                 marker: progress.marker,

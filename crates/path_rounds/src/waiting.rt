@@ -30,10 +30,9 @@ ghost use Rattle.path_table.specs.Members.{
 };
 ghost use Rattle.path_rounds.specs.Passes.{HasIssued};
 
-use crate::words::EXPIRED;
 use op_core::Order;
 use path_core::Keeper;
-use path_table::{Member, PathTable};
+use path_table::{EXPIRED, Member, PathTable};
 use std::alloc::Allocator;
 use std::sync::Wait;
 use std::thread::yield_now;

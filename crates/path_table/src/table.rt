@@ -14,7 +14,7 @@ use std::alloc::Allocator;
 pub struct PathTable<K: Keeper, A: Allocator> {
     pub(crate) table: Table<Slot<K>, View, PathKey<K>, PathRule<K>, A>,
     /// The sizes of the path.
-    pub size: PathSize,
+    pub(crate) size: PathSize,
     pub ghost keyed: { table.shared.key.size ≡ size },
     pub ghost wide: { table.shared.table_id.words ≡ 135240 },
     pub ghost deep: { table.shared.table_id.slots ≡ all_boxes size.seats },
@@ -27,7 +27,7 @@ pub struct PathTable<K: Keeper, A: Allocator> {
 pub struct Member<K> {
     pub(crate) seat: Seat<Slot<K>, View>,
     /// The number of its seat.
-    pub number: u8,
+    pub(crate) number: u8,
     pub ghost role: { seat.me.0.role ≡ roles.Steps number },
 }
 

@@ -54,7 +54,13 @@ pub(crate) const WRITE_COUNTS: usize = 72;
 pub(crate) const APPEND_COUNTS: usize = 73;
 
 /// The highest bit of a count, which marks an expired group.
-pub(crate) const EXPIRED: u64 = 0x8000_0000_0000_0000;
+pub const EXPIRED: u64 = 0x8000_0000_0000_0000;
+
+/// How many groups of each order have a word.
+pub const GROUPS: u64 = 65_536;
+
+/// The last group of an order that has a word.
+pub const LAST_GROUP: u64 = 65_535;
 
 /// Where the log begins, in the first segment.
 pub(crate) const FIRST_KEY: u64 = 28;

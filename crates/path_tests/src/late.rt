@@ -8,12 +8,9 @@ use crate::barriers::{opened, waiting};
 use op_core::Order;
 use path_core::Keeper;
 use path_rounds::{Advance, try_advance};
-use path_table::{PathSeat, PathTable};
+use path_table::{EXPIRED, PathSeat, PathTable};
 use std::alloc::Global;
 use std::test::*;
-
-// What the word of a group that is expired and finished shows.
-const EXPIRED: u64 = 0x8000_0000_0000_0000;
 
 // The current group of the write order and its count, as a seat finds them.
 fn look_twice<K: Keeper>(table: &PathTable<K, Global>, seat: PathSeat<K>) -> (PathSeat<K>, u64, u64)

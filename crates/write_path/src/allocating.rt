@@ -3,13 +3,8 @@ ghost use Rattle.std.specs.Prelude.{◌≡◌, ◌/◌, ◌<◌, ◌≤◌, IfSo
 ghost use Rattle.path_core.specs.declared.event.ClaimKind.TheVariants.{Entry};
 ghost use Rattle.path_core.specs.Keys.{MovesLog, claimed_size, entry_end, ordinal_of};
 
+use path_rounds::{FIRST_OFFSET, SEGMENT_KEYS};
 use path_rule::PathSize;
-
-/// The bytes of a segment's header and of its first marker.
-const FIRST_OFFSET: u64 = 28;
-
-/// How many keys a segment has.
-const SEGMENT_KEYS: u64 = 0x8000_0000;
 
 /// The log key behind an entry of some bytes that is claimed at a key: in its segment, or in the
 /// next one where it does not fit (`CommitLogSegment.allocate`). There is none where the path has

@@ -32,12 +32,9 @@ ghost use Rattle.write_path.specs.Tries.{Joined, OnlyLooked};
 
 use crate::resting::Resting;
 use path_core::Keeper;
-use path_table::{Begun, Member, Opener, PathSeat, PathTable, Seen};
+use path_table::{Begun, EXPIRED, Member, Opener, PathSeat, PathTable, Seen};
 use std::alloc::Allocator;
 use sync_core::SyncCore;
-
-/// The highest bit of a count, which marks an expired group.
-const EXPIRED: u64 = 0x8000_0000_0000_0000;
 
 /// A path that threads share: its words and boxes, the seat that hands out the others until they
 /// are handed out, which rests there, and how its commits are made lasting.

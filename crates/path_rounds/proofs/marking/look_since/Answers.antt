@@ -1,4 +1,4 @@
-use Rattle.std.proofs.Common.{◌≤◌, [], refl, sym, ◌∙◌, subst, arith}
+use Rattle.std.proofs.Common.{◌<◌, ◌≤◌, [], refl, sym, ◌∙◌, subst, arith}
 use Rattle.std.proofs.lemmas.Bool.{false≢true}
 use mathlib.Core.Logic.{dite}
 use native.Mathlib.Decide.{dec_lt}
@@ -24,7 +24,9 @@ returns-clause-none g c = λ none.
     (subst (λ (z : PathSize). L.result ≤ behind_last z.capacity c.args.marker)
     (sym c.requires.table.1)
     (dite (dec_lt (behind_last c.args.path.now.size.capacity c.args.marker) L.result)
-    (λ above. absurd (false≢true (sym none ∙ c.is_entry_since.ensures.1 above)))
+    (λ above. absurd (false≢true (sym none ∙ c.is_entry_since.ensures.1
+    (subst (λ (z : PathSize). behind_last z.capacity c.args.marker < L.result)
+    (sym c.size.ensures) above))))
     (λ low. omega arith))) L.ensures.found.1)
 
 pub returns-clause-rises : goal.returns-clause-rises
@@ -33,5 +35,7 @@ returns-clause-rises g c = λ none key F.
     let v = c.args.member.now.seat.me.0 in
     let up = rises_to v w L.result L.ensures.found.0 L.ensures.found.1 key F in
     dite (dec_lt (behind_last c.args.path.now.size.capacity c.args.marker) L.result)
-    (λ above. absurd (false≢true (sym none ∙ c.is_entry_since.ensures.1 above)))
+    (λ above. absurd (false≢true (sym none ∙ c.is_entry_since.ensures.1
+    (subst (λ (z : PathSize). behind_last z.capacity c.args.marker < L.result)
+    (sym c.size.ensures) above))))
     (λ low. omega (arith, low, up))

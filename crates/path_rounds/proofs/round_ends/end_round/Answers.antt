@@ -5,6 +5,8 @@ use Rattle.path_core.specs.declared.event.Event.TheVariants.{Look}
 use Rattle.path_core.specs.declared.event.Place.TheVariants.{CursorWord}
 use Rattle.path_rule.specs.declared.view.Hands.{Hands}
 use Rattle.path_rule.specs.declared.view.View.{View}
+use Rattle.path_rule.specs.declared.answer.SyncAnswer.TheVariants as answer
+use Rattle.path_rule.specs.declared.view.PathSize.{PathSize}
 use Rattle.path_rule.specs.Calls.{MayGive}
 use Rattle.path_rule.specs.Turns.{IsBarred}
 use Rattle.path_rule.specs.declared.answer.SyncAnswer.{SyncAnswer}
@@ -26,8 +28,11 @@ returns-then-now-gt0-clause-give g c = let L = c.look_stopped-now in
 
 pub returns-then-now-gt0-clause-answer : goal.returns-then-now-gt0-clause-answer
 returns-then-now-gt0-clause-answer g c = let L = c.look_stopped-now in
-    halted_answers c.args.member.number c.args.path.now.size.at_open L.result
-    c.args.member.seat.me.0 _ (L.ensures.risen c.if-now-gt0.true) L.ensures.step
+    let w = c.args.member.number in let opened = c.args.path.now.size.at_open in
+    let v = c.args.member.seat.me.0 in let u = L.new.member.seat.me.0 in
+    subst (λ (z : PathSize). Answers w opened v (answer.Stopped z.at_open L.result) u)
+    (sym c.size-at_open.ensures)
+    (halted_answers w opened L.result v u (L.ensures.risen c.if-now-gt0.true) L.ensures.step)
 
 pub end_sync-member-requires-clause-turn : goal.end_sync-member-requires-clause-turn
 end_sync-member-requires-clause-turn g c = let L = c.look_stopped-now in (

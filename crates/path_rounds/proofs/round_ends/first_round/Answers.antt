@@ -4,6 +4,8 @@ use Rattle.path_core.specs.declared.event.Event.TheVariants.{Look}
 use Rattle.path_core.specs.declared.event.Place.TheVariants.{CursorWord}
 use Rattle.path_core.specs.declared.seat.SyncTurn.{SyncTurn}
 use Rattle.path_rule.specs.declared.answer.SyncAnswer.TheVariants.{Done}
+use Rattle.path_rule.specs.declared.answer.SyncAnswer.TheVariants as answer
+use Rattle.path_rule.specs.declared.view.PathSize.{PathSize}
 use Rattle.path_rule.specs.Calls.{MayGive}
 use Rattle.path_rule.specs.SyncAnswers.{Answers}
 use Rattle.path_rule.proofs.seats.Answering.{answers_after, found_answers, halted_answers}
@@ -19,8 +21,11 @@ returns-then-now-gt0-clause-give g c = let L = c.look_stopped-now in
 
 pub returns-then-now-gt0-clause-answer : goal.returns-then-now-gt0-clause-answer
 returns-then-now-gt0-clause-answer g c = let L = c.look_stopped-now in
-    halted_answers c.args.member.number c.args.path.now.size.at_open L.result
-    c.args.member.seat.me.0 _ (L.ensures.risen c.if-now-gt0.true) L.ensures.step
+    let w = c.args.member.number in let opened = c.args.path.now.size.at_open in
+    let v = c.args.member.seat.me.0 in let u = L.new.member.seat.me.0 in
+    subst (λ (z : PathSize). Answers w opened v (answer.Stopped z.at_open L.result) u)
+    (sym c.size-at_open.ensures)
+    (halted_answers w opened L.result v u (L.ensures.risen c.if-now-gt0.true) L.ensures.step)
 
 pub returns-clause-give : goal.returns-clause-give
 returns-clause-give g c = let L = c.look_stopped-now in

@@ -1,6 +1,8 @@
 use Rattle.std.proofs.Common.{Some, refl, sym, ap, ◌∙◌, subst, arith}
 use Rattle.std.proofs.lemmas.Option.{none-some}
 use Rattle.path_core.specs.declared.seat.SyncTurn.{SyncTurn}
+use Rattle.path_rule.specs.declared.answer.SyncAnswer.TheVariants as answer
+use Rattle.path_rule.specs.declared.view.PathSize.{PathSize}
 use Rattle.path_rule.specs.Calls.{MayGive}
 use Rattle.path_rule.proofs.seats.MayGives.{gives_still}
 use Rattle.path_rounds.proofs.round_ends.look_halted.Goals as goal
@@ -19,7 +21,8 @@ returns-else-now-gt0-clause-give g c = let L = c.look_stopped-now in
 
 pub returns-then-now-gt0-clause-looked : goal.returns-then-now-gt0-clause-looked
 returns-then-now-gt0-clause-looked g c = let L = c.look_stopped-now in
-    (L.result, L.ensures.step, (refl, L.ensures.risen c.if-now-gt0.true))
+    let said = ap (λ (z : PathSize). answer.Stopped z.at_open L.result) c.size-at_open.ensures in
+    (L.result, L.ensures.step, (said, L.ensures.risen c.if-now-gt0.true))
 
 pub returns-else-now-gt0-clause-looked : goal.returns-else-now-gt0-clause-looked
 returns-else-now-gt0-clause-looked g c = let L = c.look_stopped-now in

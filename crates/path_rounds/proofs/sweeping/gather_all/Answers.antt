@@ -1,6 +1,7 @@
 use Rattle.std.proofs.Common.{◌≡◌, suc, ◌+◌, ◌<◌, [], true, refl, sym, ap, ◌∙◌, subst, arith}
 use Rattle.path_core.specs.declared.seat.Issue.TheVariants.{Rest}
 use Rattle.path_rule.specs.declared.view.Hands.{Hands}
+use Rattle.path_rule.specs.declared.view.PathSize.{PathSize}
 use Rattle.path_rule.specs.declared.view.Progress.{Progress}
 use Rattle.path_rule.specs.declared.view.View.{View}
 use Rattle.path_rule.specs.Calls.{Holds}
@@ -33,32 +34,34 @@ pub note_progress-requires-clause-desk : goal.note_progress-requires-clause-desk
 note_progress-requires-clause-desk g c =
     (c.args.member.seat.me.0.hands.progress, c.loop.invariant.desk)
 
-pub returns-then-swept-path-clause-same : goal.returns-then-swept-path-clause-same
-returns-then-swept-path-clause-same g c = let N = c.note_progress.ensures.same in
+pub returns-then-swept-size-clause-same : goal.returns-then-swept-size-clause-same
+returns-then-swept-size-clause-same g c = let N = c.note_progress.ensures.same in
     (N.0.0 ∙ c.loop.invariant.table, N.0.1 ∙ c.loop.invariant.number)
 
-pub returns-then-swept-path-clause-steps : goal.returns-then-swept-path-clause-steps
-returns-then-swept-path-clause-steps g c =
+pub returns-then-swept-size-clause-steps : goal.returns-then-swept-size-clause-steps
+returns-then-swept-size-clause-steps g c =
     subst (λ (u : View). RoundSteps c.args.member.number [] c.args.member.seat.me.0 u)
     (sym c.note_progress.ensures.same.1) c.loop.invariant.steps
 
-pub returns-then-swept-path-clause-turn : goal.returns-then-swept-path-clause-turn
-returns-then-swept-path-clause-turn g c =
+pub returns-then-swept-size-clause-turn : goal.returns-then-swept-size-clause-turn
+returns-then-swept-size-clause-turn g c =
     subst (Holds Rest) (sym c.note_progress.ensures.same.1) c.loop.invariant.holds
 
-pub returns-then-swept-path-clause-swept : goal.returns-then-swept-path-clause-swept
-returns-then-swept-path-clause-swept g c =
+pub returns-then-swept-size-clause-swept : goal.returns-then-swept-size-clause-swept
+returns-then-swept-size-clause-swept g c =
     subst (λ (u : View). SweptAll c.args.member.seat.me.0.hands u.hands)
     (sym c.note_progress.ensures.same.1) (sweep_ends c.args.path.now.size.seats c.loop.swept _ _
-    c.if-swept-path.true c.loop.invariant.swept)
+    (c.if-swept-size.true ∙ ap (λ (z : PathSize). z.seats) c.size.ensures)
+    c.loop.invariant.swept)
 
-pub returns-then-swept-path-clause-desk : goal.returns-then-swept-path-clause-desk
-returns-then-swept-path-clause-desk g c =
+pub returns-then-swept-size-clause-desk : goal.returns-then-swept-size-clause-desk
+returns-then-swept-size-clause-desk g c =
     let shows = shows_of g.K.Keeper.holds in let N = c.note_progress in
     let S = c.loop.invariant.swept in
+    let all = c.if-swept-size.true ∙ ap (λ (z : PathSize). z.seats) c.size.ensures in
     let told : record { gathered = true; marker = c.args.progress.marker }
     ≡ c.loop.member.seat.me.0.hands.progress = λ j. record {
-      gathered = sym (S.all c.if-swept-path.true) j;
+      gathered = sym (S.all all) j;
       marker = (ap (λ (p : Progress). p.marker) c.requires.fresh.1 ∙ sym S.marker) j;
     } in
     subst (λ (u : View). HasDesk shows u.hands.lasting u.hands.pending u.hands.progress
@@ -76,12 +79,14 @@ gather_box-next-requires-clause-turn g c = let I = c.loop.invariant in
 
 pub gather_box-next-requires-clause-more : goal.gather_box-next-requires-clause-more
 gather_box-next-requires-clause-more g c = let S = c.loop.invariant.swept in
-    let below = S.below in let other = c.if-swept-path.false in
+    let below = S.below in let other = c.if-swept-size.false in
+    let size = ap (λ (z : PathSize). z.seats) c.size.ensures in
     let few = c.args.path.now.fits.few_writers in (S.count, omega arith, omega arith)
 
 pub gather_box-next-requires-clause-desk : goal.gather_box-next-requires-clause-desk
 gather_box-next-requires-clause-desk g c = let I = c.loop.invariant in
-    let below = I.swept.below in let other = c.if-swept-path.false in
+    let below = I.swept.below in let other = c.if-swept-size.false in
+    let size = ap (λ (z : PathSize). z.seats) c.size.ensures in
     subst (λ (p : Progress). HasDesk (shows_of g.K.Keeper.holds)
     c.loop.member.seat.me.0.hands.lasting c.loop.member.seat.me.0.hands.pending p
     c.loop.member.seat.me.1) (sym (I.swept.still (omega arith))) I.desk
@@ -91,7 +96,8 @@ loop-preserved-then-took g c =
     let I = c.loop.invariant in let G = c.gather_box-next in let w = c.args.member.number in
     let seats = c.args.path.now.size.seats in let before = c.loop.member.seat.me.0.hands in
     let first = c.args.member.seat.me.0.hands in let now = G.result.0.seat.me.0.hands in
-    let below = I.swept.below in let other = c.if-swept-path.false in
+    let below = I.swept.below in let other = c.if-swept-size.false in
+    let size = ap (λ (z : PathSize). z.seats) c.size.ensures in
     let less : c.loop.swept < seats = omega arith in
     let up : suc c.loop.swept ≡ c.loop.swept + 1 = omega arith in record {
       next = tt;
@@ -114,7 +120,8 @@ loop-preserved g c =
     let I = c.loop.invariant in let G = c.gather_box-next in let w = c.args.member.number in
     let seats = c.args.path.now.size.seats in let before = c.loop.member.seat.me.0.hands in
     let first = c.args.member.seat.me.0.hands in let now = G.result.0.seat.me.0.hands in
-    let below = I.swept.below in let other = c.if-swept-path.false in
+    let below = I.swept.below in let other = c.if-swept-size.false in
+    let size = ap (λ (z : PathSize). z.seats) c.size.ensures in
     let less : c.loop.swept < seats = omega arith in
     let same : now ≡ before = subst (λ b. SweepsOne seats c.args.current before b now)
     c.if-took.false G.ensures.swept in record {

@@ -17,7 +17,8 @@ returns-clause-steps g c =
 
 pub returns-clause-passed : goal.returns-clause-passed
 returns-clause-passed g c =
-    let S = c.seek_current-current in let O = c.seek_oldest-oldest in let A = c.advance_to.ensures in
+    let S = c.seek_current-current in let O = c.seek_oldest-oldest in
+    let A = c.advance_to.ensures in
     λ t m group stage. let then = S.ensures.stages t ∙ stage in
     let low = barrier_below _ _ S.result t m group _ O.ensures.step.was S.ensures.turn.1 then in
     let high = A.past.2 in (
