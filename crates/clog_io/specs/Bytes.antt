@@ -2,7 +2,9 @@
 use Rattle.std.specs.Prelude.{
   ◌≡◌,
   ℕ,
+  ◌+◌,
   ◌-◌,
+  ◌≤◌,
   List,
   [],
   ◌++◌,
@@ -32,3 +34,9 @@ abbrev pub TakesSome : Option (List ℕ) → Option (List ℕ) → Type 0
 TakesSome None new = ⊤
 TakesSome (Some left) None = ⊥
 TakesSome (Some left) (Some now) = now ≡ drop (length left - length now) left
+
+-- at most so many bytes were taken
+abbrev pub TakesAtMost : ℕ → Option (List ℕ) → Option (List ℕ) → Type 0
+TakesAtMost most None new = ⊤
+TakesAtMost most (Some left) None = ⊥
+TakesAtMost most (Some left) (Some now) = length left ≤ length now + most

@@ -4,6 +4,7 @@ ghost use Rattle.std.specs.Prelude.{
   ◌≢◌,
   ◌≤◌,
   ◌<◌,
+  ◌+◌,
   length,
   IfSome,
   IfOk,
@@ -12,7 +13,7 @@ ghost use Rattle.std.specs.Prelude.{
   Err,
 };
 ghost use Rattle.clog_io.specs.Causes.{Rose};
-ghost use Rattle.clog_io.specs.Bytes.{TakesAll, TakesSome};
+ghost use Rattle.clog_io.specs.Bytes.{TakesAll, TakesAtMost, TakesSome};
 
 use crate::source::Source;
 use clog_base::Failed;
@@ -58,7 +59,8 @@ impl From<Failed> for ReadAllFault {
 }
 
 /// All bytes to the end. `Limit` comes exactly where more than `limit` bytes came before the end or
-/// a fault. After a refusal some bytes were taken from the source, and are gone.
+/// a fault. After a refusal some bytes were taken from the source, and are gone: at most a piece of
+/// 65,536 bytes more than `limit`, so an input without an end is refused.
 pub fn read_all<S: Source>(
     alloc: Global,
     source: &mut S,
@@ -69,6 +71,8 @@ pub fn read_all<S: Source>(
     ensures beyond { IsErrOf result ReadAllFault.Limit
         → IfSome (S.left source.old) (λ left. limit < length left) }
     ensures taken { OnErr result (TakesSome (S.left source.old) (S.left source.new)) }
+    ensures few { OnErr result (TakesAtMost (limit + 65536) (S.left source.old)
+        (S.left source.new)) }
     ensures later { S.faults source.old ≤ S.faults source.new }
     ensures cause { IsErrOf result ReadAllFault.Failed
         → Rose (S.faults source.old) (S.faults source.new) }
