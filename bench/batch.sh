@@ -44,6 +44,6 @@ lines $count >"$work/lines"
 for writers in 1 8 64; do
     micros synced_writes | awk -v n=$count '{ printf "60 bytes and a sync: %.0f us, ", $1 / n }'
     for again in 1 2 3; do run $writers; done | sort -n | head -n 1 |
-        awk -v n=$count -v w=$writers '{ printf "%2d writers: %4.0f us a line, %4.1f lines a sync\n",
-            w, $1 / n, n / $2 }'
+        awk -v n=$count -v w=$writers '
+            { printf "%2d writers: %4.0f us a line, %4.1f lines a sync\n", w, $1 / n, n / $2 }'
 done

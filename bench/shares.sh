@@ -2,8 +2,9 @@
 # Time a line and peak memory of `apply` by 1, 4, 8 and 64 writers for 100,000 lines with distinct
 # keys, and by 8 writers for 10,000 and 700,000, nearly the largest file: the least of three runs
 # each. So too with a flush of each table at 1,000 updates of a writer: of 100,000 lines to 16
-# tables one writer makes 96 flushes, of 700,000 each of 8 writers 86. And of `drill` with 10,000 to
-# 1,000,000 lines, each once. Needs GNU time and a built program. No part of the gate.
+# tables one writer makes 96 flushes, 64 writers some 40, of 700,000 each of 8 writers 86. And of
+# `drill` with 10,000 to 1,000,000 lines, each once. Needs GNU time and a built program. No part of
+# the gate.
 set -e
 top=$(cd "$(dirname "$0")/.." && pwd)
 . "$top/bench/setup.sh"
@@ -36,6 +37,7 @@ over() {
 over 10000 8
 over 100000 1 4 8 64
 measure 1 --flush-at 1000
+measure 64 --flush-at 1000
 over 700000 8
 measure 8 --flush-at 1000
 

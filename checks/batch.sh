@@ -4,7 +4,8 @@
 
 lines() {
     awk -v n="$1" 'BEGIN { for (i = 1; i <= n; i++)
-        printf "{\"key\":\"%05d\",\"updates\":[{\"table\":0,\"column\":\"c\",\"ts\":1,\"value\":\"v\"}]}\n", i }'
+        printf "{\"key\":\"%05d\",\"updates\":[{\"table\":0,\"column\":\"c\",\"ts\":1," \
+            "\"value\":\"v\"}]}\n", i }'
 }
 batch() { "$@" "$program" apply --sync batch <file; }
 

@@ -4,7 +4,8 @@
 # its lines are there, all of a run that has said so, and each line that was lasting: most runs are
 # traced, and tell which lines a sync has had that returned. Segments are whole, archived or left,
 # but for the last one where it is left, and hold each line once at most; table files of a table
-# follow one another.
+# follow one another, and hold just the lines whose entries end in their intervals, as far as the
+# segments are there to tell.
 . "$top/checks/lib"
 
 # So many runs are to be killed, half of them in each of the two ways, and at most so many are made
@@ -13,21 +14,31 @@ kills=200
 most_runs=200
 runs_a_folder=25
 
-# The words of a run, by its number: each combination comes once in 96. Each fifth run has receipts.
+# A key, as it stands in lines, entries and table files.
+a_key='[0-9][0-9][0-9]-[0-9][0-9][0-9][0-9]'
+
+# The words of a run, by its number: each combination of writers, mode and end comes once in 96, and
+# about half of those that flush or drain archive. Where a writer has few lines each of them makes a
+# flush due. Each fifth run has receipts.
 words_of() {
     set -- 1 2 3 5 8 16 33 64
     shift $((run % 8))
-    writers=$1
+    writers=$1 limit=7
     case $((run / 8 % 3)) in
     0) count=700 mode='--segment-kib 4' ;;
-    1) count=96 mode='--sync batch' ;;
+    1)
+        count=96 mode='--sync batch'
+        [ "$writers" -lt 16 ] || limit=1
+        ;;
     2) count=700 mode='--segment-kib 4 --period 1' ;;
     esac
+    archive=
+    [ $((run / 7 % 2)) -eq 0 ] || archive=' --archive'
     case $((run / 24 % 4)) in
     0) end= ;;
-    1) end='--drain' ;;
-    2) end='--flush-at 7 --archive' ;;
-    3) end='--flush-at 7 --drain --archive' ;;
+    1) end="--drain$archive" ;;
+    2) end="--flush-at $limit$archive" ;;
+    3) end="--flush-at $limit --drain$archive" ;;
     esac
     receipts=
     [ $((run % 5)) -ne 0 ] || receipts=--receipts
@@ -87,8 +98,8 @@ kill_at_a_call() {
     # A run makes such a call about so often, or more often.
     case $1:$mode:$end in
     openat:*) most=8 ;;
-    rename:*:*flush*) most=$((count / writers / 7 * writers + 1)) ;;
-    rename:*:*drain | unlink:*batch*:?*) most=2 ;;
+    rename:*:*flush*) most=$((count / writers / limit * writers + 1)) ;;
+    rename:*:*drain* | unlink:*batch*:?*) most=2 ;;
     rename:* | unlink:*:) most=1 ;;
     unlink:*) most=8 ;;
     *:*batch*) most=$((count / writers + 2)) ;;
@@ -192,8 +203,9 @@ wrong_segments() {
 
 # What is wrong with the table files, of each table in order: sequences go from 1 on. An interval
 # begins at 0, a recovery's; or where a run does, above all ends before; or where the one before it
-# ends.
+# ends. In `intervals` stands each with its table and sequence.
 wrong_tables() {
+    : >intervals
     names Table- | sed -n 's/^Table-\([0-9]*\)-\([0-9]*\)\.tbl$/\1 \2/p' |
         sort -n -k 1,1 -k 2,2 >tables
     [ -s tables ] || return 0
@@ -206,6 +218,7 @@ wrong_tables() {
         {
             id = number(8, 15); at = number(16, 19); top_id = number(20, 27); top = number(28, 31)
             name = "Table-" $1 "-" $2
+            printf "%d %d %.0f %d %.0f %d\n", $1, $2, id, at, top_id, top >"intervals"
             if ($2 != sequence[$1] + 1) print name, "sequence"
             if (NF != 35 || $7 != $1) print name, "head"
             if (id > top_id || (id == top_id && at >= top)) print name, "interval"
@@ -214,6 +227,36 @@ wrong_tables() {
             sequence[$1] = $2; last_id[$1] = top_id; last[$1] = top
             if (top_id > most[$1] + 0) most[$1] = top_id
         }'
+}
+
+# What is wrong with what the table files of a run hold whose segments are all there, archived or
+# left: the first of each table begins where the first segment does, and each holds the lines of its
+# table whose entries end in its interval. An entry ends 41 bytes behind the beginning of its key.
+wrong_cells() {
+    base=$(ls look/commitlog | sed -n '1s/.*-\([0-9]*\)\.log$/\1/p')
+    case $end:$base in *archive:[0-9]*) ;; *) return 0 ;; esac
+    awk -v base="$base" '$5 >= base + 0 && $3 + $4 > 0' intervals >filed
+    [ -s filed ] || return 0
+    echo "$run" >>compared
+    awk -v base="$base" '!($1 in begun) && ($3 != base + 0 || $4 != 0) { print "first" }
+        { begun[$1] }' filed
+    (cd look/commitlog && LC_ALL=C grep -abHo "$a_key" *) |
+        sed 's/.*-\([0-9]*\)\.log:\([0-9]*\):/\1 \2 /' |
+        awk 'NR == FNR { ends[$0]; next }
+            $1 " " $2 + 41 in ends { print $1, $2 + 41, $3 }' ends - >placed
+    awk 'NR == FNR { row[++rows] = $0; next }
+        {
+            table = substr($3, 5) % 2
+            for (r = 1; r <= rows; r++) {
+                split(row[r], of)
+                if (of[1] == table && ($1 > of[3] || $1 == of[3] && $2 > of[4]) &&
+                    ($1 < of[5] || $1 == of[5] && $2 <= of[6])) print of[1], of[2], $3
+            }
+        }' filed placed | sort >wanted
+    awk '{ print "commitlog/Table-" $1 "-" $2 ".tbl" }' filed |
+        LC_ALL=C xargs grep -aHo "$a_key" |
+        sed 's/.*Table-\([0-9]*\)-\([0-9]*\)\.tbl:/\1 \2 /' | sort | cmp - wanted
+    [ "$(cut -d ' ' -f 1,2 wanted | sort -u | wc -l)" -eq "$(wc -l <filed)" ] || echo idle
 }
 
 # What is wrong behind a run that was killed.
@@ -235,6 +278,7 @@ wrong() {
         -e '/^Table-[01]-[1-9][0-9]*\.tbl$/d' -e '/^being-/d'
     wrong_segments
     wrong_tables
+    wrong_cells
 }
 
 # The next run, of one line.
@@ -274,6 +318,7 @@ nothing ($lost)" test -z "$lost"
 
 fresh
 mkfifo process
+: >compared
 traced=
 ! traces || traced=yes
 run=8
@@ -293,3 +338,5 @@ else
     kill_runs kill_at_a_moment 'at random moments' $kills
 fi
 that "$kills runs were killed ($all)" test "$all" -ge $kills
+compared=$(wc -l <compared)
+that "of many what their table files hold was compared ($compared)" test "$compared" -ge 20

@@ -4,7 +4,8 @@
 
 lines() {
     awk -v n="$1" 'BEGIN { for (i = 1; i <= n; i++)
-        printf "{\"key\":\"k%d\",\"updates\":[{\"table\":%d,\"column\":\"c\",\"ts\":%d,\"value\":\"v%s\"}]}\n",
+        printf "{\"key\":\"k%d\",\"updates\":[{\"table\":%d,\"column\":\"c\",\"ts\":%d," \
+            "\"value\":\"v%s\"}]}\n",
             i % 50, i % 3, i, substr("xxxxxxxxxxxxxxxxxxxx", 1, i % 20) }'
 }
 
@@ -55,7 +56,8 @@ that 'the next run goes on' test "$(head -n 1 told)" = 'applied 10'
 fresh
 made() {
     awk 'BEGIN { for (i = 1; i <= 3000; i++)
-        printf "{\"key\":\"%05d\",\"updates\":[{\"table\":0,\"column\":\"c\",\"ts\":1,\"value\":\"v\"}]}\n", i }'
+        printf "{\"key\":\"%05d\",\"updates\":[{\"table\":0,\"column\":\"c\",\"ts\":1," \
+            "\"value\":\"v\"}]}\n", i }'
 }
 by_eight() { exec "$program" apply --writers 8 --segment-kib 4 <file >said 2>/dev/null; }
 made >file
@@ -72,7 +74,9 @@ for run in $(seq 20); do
     "$program" replay | sed -n 's/.*"key":"0*\([0-9]*\)".*/\1/p' >found
     [ ! -s found ] || [ -s said ] || some=$((some + 1))
     awk '{ w = $1 % 8; count[w]++; if ($1 > last[w]) last[w] = $1 }
-        END { for (w in count) if (last[w] != (w + 0 ? w : 8) + 8 * (count[w] - 1)) bad = 1; exit bad }' \
+        END { for (w in count)
+                if (last[w] != (w + 0 ? w : 8) + 8 * (count[w] - 1)) bad = 1
+            exit bad }' \
         found || lost="$lost $run"
     [ ! -s said ] || [ "$(wc -l <found)" -eq 3000 ] || lost="$lost said-$run"
     echo "$line" | "$program" apply --writers 2 >again || lost="$lost again-$run"
