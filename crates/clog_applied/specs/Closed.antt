@@ -122,8 +122,8 @@ pub record IsPut (files : List TableFile) (after : Files) (place : Place) (name 
   pub listed : Contains files file
   pub good : IsGoodTable after place name file
 
--- What was appended since the opening is the history, and no other change was made than those of the
--- run's own segments and table files. Segments stand as they were appended, but for
+-- What was appended since the opening is the history, and no other change was made than those of
+-- the run's own segments and table files. Segments stand as they were appended, but for
 -- those that were dropped, and these are exactly the droppable ones. Table files that were put are
 -- there, and of the opening all else; no other name has come.
 pub record IsStoreLeft (archive : Bool) (opened after : Files) (later : List Change)

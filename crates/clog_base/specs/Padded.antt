@@ -16,7 +16,10 @@ pub record IsPadded (n : Inside) : Type 0 where
   pub name : is_name (take n.len n.bytes) ≡ true
 
 abbrev pub padded : List ℕ → Inside
-padded bytes = record { bytes = bytes ++ replicate (longest_file_name - length bytes) 0; len = length bytes }
+padded bytes = record {
+  bytes = bytes ++ replicate (longest_file_name - length bytes) 0;
+  len = length bytes;
+}
 
 pub padded_ok : (n : Inside) → IsPadded n → padded (name_bytes n) ≡ n
 padded_ok n h =
@@ -27,5 +30,5 @@ padded_ok n h =
       h.row,
     ) in
     let z : take n.len n.bytes ++ replicate (longest_file_name - length (take n.len n.bytes)) 0
-    ≡ n.bytes = ap (λ k. take n.len n.bytes ++ replicate (longest_file_name - k) 0) e ∙ sym h.zeros in
-    λ i. record { bytes = z i; len = e i }
+    ≡ n.bytes = ap (λ k. take n.len n.bytes ++ replicate (longest_file_name - k) 0) e ∙ sym h.zeros
+    in λ i. record { bytes = z i; len = e i }

@@ -1,6 +1,4 @@
 //! Faults that several layers hand on.
-ghost use Rattle.std.specs.Prelude.{◌≡◌};
-ghost use Rattle.clog_base.specs.declared.fault.OutOfMemory.{OutOfMemory as out_of_memory};
 
 use std::alloc::{AllocError, AllocFailed};
 

@@ -7,7 +7,6 @@ ghost use Rattle.clog_base.specs.Positions.{
   HasKey,
   key_of,
   ordinal_of,
-  offset_of,
   position_of,
   key_at,
 };

@@ -10,7 +10,7 @@ ghost use Rattle.std.specs.Cmp.Lexicographic.{
   texts_ties,
   texts_po,
 };
-ghost use Rattle.std.specs.Prelude.{◌≡◌, ◌≤◌, length, IfOk, OnOk, string_bytes};
+ghost use Rattle.std.specs.Prelude.{◌≡◌, length, IfOk, string_bytes};
 
 use crate::fault::OutOfMemory;
 use std::alloc::Global;

@@ -5,8 +5,8 @@ use Rattle.clog_base.specs.declared.cell.CellKey.{CellKey}
 use Rattle.clog_cells.specs.Merge.{HaveSameMembers, IsMerge}
 use Rattle.clog_cells.specs.declared.batches.CellBatches.{CellBatches}
 
--- These cells were put: some of them are merged, and the others wait. What they all merge to is what
--- is answered in the end.
+-- These cells were put: some of them are merged, and the others wait. What they all merge to is
+-- what is answered in the end.
 pub record WerePut (cells : List (CellKey × Cell)) (b : CellBatches) : Type 0 where
   pub done : List (CellKey × Cell)
   pub merged : IsMerge done b.merged

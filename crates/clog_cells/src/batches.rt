@@ -78,7 +78,8 @@ impl CellBatches {
 
     /// The newest cell of each key of those that were put.
     pub fn into_map(self) -> Result<CellMap, OutOfMemory>
-        ensures { (cells : List (CellKey × Cell)) → WerePut cells self → IfOk result (IsMerge cells) }
+        ensures { (cells : List (CellKey × Cell)) → WerePut cells self
+            → IfOk result (IsMerge cells) }
     {
         let CellBatches {
             alloc,

@@ -70,8 +70,8 @@ impl CellMap {
         }
     }
 
-    /// The newest cell of each key among these pairs, in whatever order they come. Want of memory is
-    /// answered also where there would be more than 4294967295 cells; a refusal leaves no pair.
+    /// The newest cell of each key among these pairs, in whatever order they come. Want of memory
+    /// is answered also where there would be more than 4294967295 cells; a refusal leaves no pair.
     pub fn of_pairs(alloc: Global, pairs: Vec<(CellKey, Cell)>) -> Result<CellMap, OutOfMemory>
         ensures { IfOk result (IsMerge pairs.items) }
     {

@@ -56,7 +56,8 @@ touches_some n whole = by whole.mutation.updates refl
     by : (us : List Update) → whole.mutation.updates ≡ us
         → (t : ℕ) × IsTrue (touches n.tables t)
     by [] is =
-        let some = whole.stored.some in let none = ap length is in absurd (omega (arith, some, none))
+        let some = whole.stored.some in let none = ap length is in
+        absurd (omega (arith, some, none))
     by (u ∷ us) is = (
       u.table.0,
       (whole.tables u.table.0).1 (record {
@@ -70,8 +71,8 @@ touches_some n whole = by whole.mutation.updates refl
 of_own : (n : EntryNote) (t : ℕ) → IsTrue (touches n.tables t)
     → IsTrue (is_of (ordinal_of n.start.0) t n)
 of_own n t bit =
-    ap (λ (b : Bool). b && touches n.tables t) (eq-eqb (ordinal_of n.start.0) (ordinal_of n.start.0) refl)
-    ∙ bit
+    ap (λ (b : Bool). b && touches n.tables t) (eq-eqb (ordinal_of n.start.0) (ordinal_of n.start.0)
+    refl) ∙ bit
 
 pub nothing_done : (h : Holding) → HasNoDeeds h
     → ((n : EntryNote) → Contains h.logged n → IsWhole n) → HasFinished false h

@@ -1,5 +1,24 @@
 -- What a store has brought to a disk, and what that tells, where it told its files at the opening.
-use Rattle.std.proofs.Common.{◌≡◌, inl, inr, true, false, List, [], ◌++◌, take, append-nil, Option, Some, None, refl, sym, ◌∙◌, ap, subst}
+use Rattle.std.proofs.Common.{
+  ◌≡◌,
+  inl,
+  inr,
+  true,
+  false,
+  List,
+  [],
+  ◌++◌,
+  take,
+  append-nil,
+  Option,
+  Some,
+  None,
+  refl,
+  sym,
+  ◌∙◌,
+  ap,
+  subst,
+}
 use Rattle.std.specs.Prelude.{is_some, option_map}
 use Rattle.std.proofs.Math.Seq.{take-nil}
 use Rattle.std.proofs.lemmas.Bool.{true≢false}

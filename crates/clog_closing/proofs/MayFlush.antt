@@ -1,5 +1,5 @@
--- Memtables of all that a keeper has logged, each from where its table's last file ends: they may be
--- flushed, and each holds an entry.
+-- Memtables of all that a keeper has logged, each from where its table's last file ends: they may
+-- be flushed, and each holds an entry.
 use Rattle.std.proofs.Common.{◌≡◌, ℕ, ◌+◌, ◌<◌, ◌≤◌, ◌^◌, List, length, arith}
 use Rattle.std.specs.Prelude.{Contains}
 use Rattle.clog_spec.specs.Sizes.{most_tables}

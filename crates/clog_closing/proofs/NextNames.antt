@@ -1,5 +1,30 @@
 -- The names of a store's table files are the next ones of their tables.
-use Rattle.std.proofs.Common.{◌≡◌, ℕ, ◌+◌, ◌^◌, ◌<◌, ◌≤◌, inl, inr, Bool, true, false, List, [], ◌∷◌, ◌++◌, length, map, refl, sym, ◌∙◌, ap, subst, arith, append_assoc}
+use Rattle.std.proofs.Common.{
+  ◌≡◌,
+  ℕ,
+  ◌+◌,
+  ◌^◌,
+  ◌<◌,
+  ◌≤◌,
+  inl,
+  inr,
+  Bool,
+  true,
+  false,
+  List,
+  [],
+  ◌∷◌,
+  ◌++◌,
+  length,
+  map,
+  refl,
+  sym,
+  ◌∙◌,
+  ap,
+  subst,
+  arith,
+  append_assoc,
+}
 use Rattle.std.specs.Prelude.{◌↔◌, ◌==◌, Contains}
 use Rattle.std.proofs.lemmas.Bool.{cases_lt, eq-eqb, true≢false}
 use Rattle.std.proofs.lemmas.Bool.Decides.{nat_tests}
@@ -196,8 +221,8 @@ module _ (opened after : Files) (log : StoreLog) (deeds : Deeds)
         | inl old ↦ old
         | inr put ↦ absurd (nothing_there put.0 put.1)
       ]) is in
-      let takes = takes_from opened log.base deeds.files placed are table [] placed next refl fresh n
-      in
+      let takes = takes_from opened log.base deeds.files placed are table [] placed next refl fresh
+      n in
       let many : length (files_of table (map (λ (p : PlacedFile). file_on log.base p.put) placed))
       ≡ length (files_of table (files_by log deeds)) =
       ap (λ (l : List TableFile). length (files_of table l)) (files_are log.base placed

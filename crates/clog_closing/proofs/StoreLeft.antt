@@ -102,8 +102,8 @@ module _ (sizes : Sizes) (opened after : Files) (later : List Change) (log : Sto
 
   pub from_base : (id : ℕ) → Contains ids id → log.base ≤ id
   from_base =
-      above_base later log.base log.past log.id log.sections log.logged history e.goes.grown e.goes.stored
-      e.goes.places e.goes.notes
+      above_base later log.base log.past log.id log.sections log.logged history e.goes.grown
+      e.goes.stored e.goes.places e.goes.notes
 
   table_named : (p : PlacedFile) → Contains e.folder.placed p
       → IsTableName (name_of p) p.put.table p.sequence

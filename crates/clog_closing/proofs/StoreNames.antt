@@ -1,6 +1,21 @@
 -- Which names have come in a folder that a store holds, also where its disk has failed: those of
 -- its segments, their archive names and table files.
-use Rattle.std.proofs.Common.{◌≡◌, ℕ, inl, inr, List, [], ◌∷◌, Option, None, map, sym, ◌∙◌, ap, subst}
+use Rattle.std.proofs.Common.{
+  ◌≡◌,
+  ℕ,
+  inl,
+  inr,
+  List,
+  [],
+  ◌∷◌,
+  Option,
+  None,
+  map,
+  sym,
+  ◌∙◌,
+  ap,
+  subst,
+}
 use Rattle.std.specs.Prelude.{Contains, IsSome}
 use Rattle.std.specs.FinMap as finmap
 use Rattle.std.proofs.lemmas.List.Elements.{Contains-append_left, Contains-append_right}

@@ -354,8 +354,8 @@ module _ (sizes : Sizes) (opened after : Files) (later : List Change) (log : Sto
       let n = note_of_line log.base log.logged history e.goes.notes l.0 l.1 in
       let here : ordinal_of n.note.start.0 ≡ found.0 = omega (arith, n.is.id, l.2, found.2) in
       subst Droppable found.2
-      (filed_droppable sizes.capacity log.base log.logged deeds.files history few e.goes.in_log e.goes.notes
-      found.0 n.note n.listed here (filed found.0 found.1))
+      (filed_droppable sizes.capacity log.base log.logged deeds.files history few e.goes.in_log
+      e.goes.notes found.0 n.note n.listed here (filed found.0 found.1))
 
   may_dropped : (id : ℕ) → Contains (ids_in log) id → Droppable id
       → Contains (dropped_ids log deeds) id
@@ -364,14 +364,15 @@ module _ (sizes : Sizes) (opened after : Files) (later : List Change) (log : Sto
       let base = from_base sizes opened after later log deeds history e id listed in
       let is : id ≡ log.base + o = omega (arith, base) in
       let own = subst Droppable is drop in
-      let n = droppable_note sizes.capacity log.base log.logged deeds.files history few e.goes.in_log
-      e.goes.notes o own in
+      let n = droppable_note sizes.capacity log.base log.logged deeds.files history few
+      e.goes.in_log e.goes.notes o own in
       subst (λ (k : ℕ). Contains (dropped_ids log deeds) k) (sym is)
       (in_map (λ (k : ℕ). log.base + k) deeds.dropped o (e.whole.exactly o (record {
         note = n.0;
         among = n.1;
         here = n.2;
-        filed = is_filed_key sizes.capacity log.base log.logged deeds.files history few e.goes.in_log
+        filed = is_filed_key sizes.capacity log.base log.logged deeds.files history few
+            e.goes.in_log
             e.goes.notes o own;
       })))
 

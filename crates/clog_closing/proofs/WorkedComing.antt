@@ -158,11 +158,11 @@ module _ (archives : Bool) (base writers : ℕ) (ms : List Mutation) (now : Opti
   pub not_gone_early : HasComeInOrder archives base writers ms now gone_early → ⊥
   not_gone_early has =
       let its = the_one_is the_segment gone_early refl has.ids has.history has.turns.is_appended in
-      let may = has.turns.order.removed_filed (goes_in ∷ []) (comes (file_to the_end) ∷ []) 1000 its refl
-      in
+      let may = has.turns.order.removed_filed (goes_in ∷ []) (comes (file_to the_end) ∷ []) 1000 its
+      refl in
       let d = may.droppable in
-      let one = only_entry gone_early refl has.ids has.history has.turns.is_appended d.entry d.has_entry
-      in
+      let one = only_entry gone_early refl has.ids has.history has.turns.is_appended d.entry
+      d.has_entry in
       let touches = subst (λ (e : Entry). Touches e first_table) one (touches_first 1 28) in
       let filed = d.filed first_table d.entry d.entry d.has_entry d.has_entry touches touches
       d.entry.end (omega arith) (omega arith) in

@@ -65,8 +65,8 @@ StaysAlive disk before now =
 
 -- What a step of a drain makes of a store that runs, whatever it answers: with files for these
 -- memtables, or for the first of them, a drain up to a key is one up to that key still; what the
--- store had done beside its log is good still where it was, and each memtable's file holds an entry;
--- the log is as it was and lives on; and the step ends as it answers.
+-- store had done beside its log is good still where it was, and each memtable's file holds an
+-- entry; the log is as it was and lives on; and the step ends as it answers.
 pub record HasGoneOn {D : Type 0} (disk : DiskTells D) (code : D → Gv) (before now : StoreState D)
     (memtables : List Memtable) (result : Result (Unit {0}) KeeperFault) : Type 0 where
   pub begun : (upper : ℕ) → ReachTo upper memtables → HasBegun (held_in disk code before) upper

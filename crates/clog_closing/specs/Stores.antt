@@ -58,8 +58,8 @@ pub record AreWholeDeeds (log : StoreLog) (deeds : Deeds) : Type 0 where
 
 -- ---- what it has come to
 
--- Its changes since the opening have brought just its log and stand in order. Its log holds just the
--- entries of notes, which are those of a history.
+-- Its changes since the opening have brought just its log and stand in order. Its log holds just
+-- the entries of notes, which are those of a history.
 pub record GoesInOrder (sizes : Sizes) (later : List Change) (log : StoreLog) (deeds : Deeds)
     (history : List LoggedLine) : Type 0 where
   pub grown : IsGrown (appends_of later) log.past log.id log.sections

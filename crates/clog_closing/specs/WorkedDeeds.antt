@@ -1,5 +1,6 @@
--- Worked rows: what a keeper holds that has made one entry of table 0 lasting, which ends at 60. Its
--- log goes on at 68, behind the marker of the sync. It has put table files, and dropped its segment.
+-- Worked rows: what a keeper holds that has made one entry of table 0 lasting, which ends at 60.
+-- Its log goes on at 68, behind the marker of the sync. It has put table files, and dropped its
+-- segment.
 use Rattle.std.specs.Prelude.{◌≡◌, ℕ, Bool, false, if◌then◌else◌, List, [], ◌∷◌, None}
 use base.Stored.{Gv}
 use Rattle.clog_base.specs.declared.sizes.Sizes.{Sizes}

@@ -1,7 +1,7 @@
-//! A store is drained: a table file is put for each memtable, behind those that were put before, and
-//! all segments go for which table files stand (Cassandra's `ColumnFamilyStore.forceFlush` of each
-//! table, and then `CommitLog.discardCompletedSegments`, as `nodetool drain` does). The log of notes
-//! stays as it is.
+//! A store is drained: a table file is put for each memtable, behind those that were put before,
+//! and all segments go for which table files stand (Cassandra's `ColumnFamilyStore.forceFlush` of
+//! each table, and then `CommitLog.discardCompletedSegments`, as `nodetool drain` does). The log of
+//! notes stays as it is.
 ghost use Rattle.std.specs.Prelude.{◌≡◌, ℕ, [], Contains, OnOk, false};
 ghost use Rattle.clog_spec.specs.Sizes.{most_segments};
 ghost use Rattle.clog_memtable.specs.declared.flushing.Memtable.{Memtable as memtable_type};
@@ -46,6 +46,7 @@ fn drop_all<D: Disk>(store: &mut Store<D>) -> Result<(), KeeperFault>
         (held_in D.Disk D.row.coded.code store.new) most_segments count) }
     ensures on { HasGoneOn D.Disk D.row.coded.code store.old store.new [] result }
 {
+    // A match in place of `?`, since the exit tells what was kept.
     match store.drop_due(MOST_SEGMENTS) {
         Ok(_) => Ok(()),
         Err(fault) => Err(fault),
@@ -53,8 +54,9 @@ fn drop_all<D: Disk>(store: &mut Store<D>) -> Result<(), KeeperFault>
 }
 
 /// Puts the table files, in their order, behind those that were put before, and drops what may go
-/// then; with no memtable it only drops. The store runs, and what it has done beside its log is good.
-/// Each memtable's file holds an entry. Where something is refused, what was done before it stands.
+/// then; with no memtable it only drops. The store runs, and what it has done beside its log is
+/// good. Each memtable's file holds an entry. Where something is refused, what was done before it
+/// stands.
 pub fn drain<D: Disk>(store: &mut Store<D>, memtables: &[Memtable]) -> Result<(), KeeperFault>
     requires runs { store.old.notes.log.is_stopped ≡ false }
     requires may { MayFlush (held_in D.Disk D.row.coded.code store.old) memtables.now }
@@ -65,6 +67,7 @@ pub fn drain<D: Disk>(store: &mut Store<D>, memtables: &[Memtable]) -> Result<()
         (held_in D.Disk D.row.coded.code store.new) memtables.now) }
     ensures on { HasGoneOn D.Disk D.row.coded.code store.old store.new memtables.now result }
 {
+    // A match in place of `?`, since the exit tells what was kept.
     match flush_each(store, memtables) {
         Ok(()) => drop_all(store),
         Err(fault) => Err(fault),

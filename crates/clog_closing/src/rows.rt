@@ -125,8 +125,8 @@ pub fn a_table_file_comes_behind_its_entries()
         → HasComeInOrder archives base writers mutations (Some no_files) changes → ⊥ }
 {}
 
-/// No table file comes that has no entry in its interval, alone or over one that holds an entry; and
-/// none that lacks a cell of an entry there.
+/// No table file comes that has no entry in its interval, alone or over one that holds an entry;
+/// and none that lacks a cell of an entry there.
 pub fn table_files_of_a_run_stand_for_something()
     ensures nothing { (archives : Bool) (base writers : ℕ) (mutations : List Mutation)
         (now : Option Files) (changes : List Change) → Contains changes (comes for_nothing)

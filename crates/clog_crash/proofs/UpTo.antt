@@ -12,7 +12,6 @@ use Rattle.std.proofs.Common.{
   take,
   drop,
   Contains,
-  refl,
   sym,
   ◌∙◌,
   ap,
@@ -28,7 +27,7 @@ use Rattle.clog_base.proofs.Members.{here, only_one}
 use Rattle.clog_disk.specs.Files.{Files}
 use Rattle.clog_scan.specs.Segment.{Entry}
 use Rattle.clog_crash.specs.Damage.{AreSegmentFiles}
-use Rattle.clog_crash.specs.Restore.{AreMutations, IsLogged, IsUndamaged}
+use Rattle.clog_crash.specs.Restore.{IsLogged, IsUndamaged}
 use Rattle.clog_crash.specs.UpTo.{IsLoggedUpTo}
 use Rattle.clog_crash.proofs.Good.{payload_is_said}
 

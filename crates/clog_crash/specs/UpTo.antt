@@ -6,8 +6,8 @@ use Rattle.clog_scan.specs.declared.answer.End.{End}
 use Rattle.clog_scan.specs.Segment.{Entry}
 use Rattle.clog_crash.specs.Restore.{AreMutations, HoldsSegment}
 
--- The entry is one of the segment of this id; its payload, and that of each entry in front of it, is
--- a mutation's.
+-- The entry is one of the segment of this id; its payload, and that of each entry in front of it,
+-- is a mutation's.
 pub record IsLoggedUpTo (files : Files) (id : ℕ) (entry : Entry) : Type 0 where
   pub name : List ℕ
   pub entries : List Entry

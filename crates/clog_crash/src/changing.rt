@@ -1,5 +1,5 @@
 //! What a folder restores to where one of its names has changed.
-ghost use Rattle.std.specs.Prelude.{◌≡◌, ◌↔◌, ◌++◌, ℕ, List, Contains};
+ghost use Rattle.std.specs.Prelude.{◌↔◌, ◌++◌, ℕ, List, Contains};
 ghost use Rattle.clog_base.specs.declared.cell.Cell.{Cell};
 ghost use Rattle.clog_base.specs.declared.cell.CellKey.{CellKey};
 ghost use Rattle.clog_cells.specs.Merge.{IsMergeOf, IsMerge};

@@ -1,6 +1,6 @@
 //! A folder is recovered: table files come, one for each table that has cells which the log
 //! restores, and then its segments go.
-ghost use Rattle.std.specs.Prelude.{◌≡◌, ◌<◌, ◌⊎◌, ◌∷◌, [], ℕ, List, Contains};
+ghost use Rattle.std.specs.Prelude.{◌<◌, ◌⊎◌, ◌∷◌, [], ℕ, List, Contains};
 ghost use Rattle.std.specs.FinMap as finmap;
 ghost use Rattle.clog_spec.specs.Names.{segment_name_of, table_name_of};
 ghost use Rattle.clog_base.specs.declared.cell.Table.{Table};

@@ -1,5 +1,25 @@
 -- What stands at each name after one change, and the files that are then read.
-use Rattle.std.proofs.Common.{◌≡◌, ◌≢◌, inl, inr, ℕ, List, [], ◌∷◌, Bool, cond, Option, Some, None, map, refl, sym, ◌∙◌, ap, subst}
+use Rattle.std.proofs.Common.{
+  ◌≡◌,
+  ◌≢◌,
+  inl,
+  inr,
+  ℕ,
+  List,
+  [],
+  ◌∷◌,
+  Bool,
+  cond,
+  Option,
+  Some,
+  None,
+  map,
+  refl,
+  sym,
+  ◌∙◌,
+  ap,
+  subst,
+}
 use Rattle.std.specs.Prelude.{option_map, T}
 use Rattle.std.specs.Map.{keys_of}
 use Rattle.std.specs.List.{AllByRecursion}

@@ -104,6 +104,7 @@ impl Held {
             other => self.written = other,
         }
         self.let_go()?;
+        // At 0 the file may be made, and its name does not last before the folder is synced.
         self.names_last &= at != 0;
         let opened = open_end(rt, name, at)?;
         Ok(Written {

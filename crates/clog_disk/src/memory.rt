@@ -1,6 +1,6 @@
 //! A disk in memory, for tests and for claims on crashes. It notes how each call that changed a
 //! file is undone, so that each past moment can be told.
-ghost use Rattle.std.specs.Prelude.{◌≡◌, ℕ, List, [], length, Some, None, option_map};
+ghost use Rattle.std.specs.Prelude.{◌≡◌, ℕ, List, [], Some, None, option_map};
 ghost use Rattle.std.specs.FinMap as map;
 ghost use Rattle.clog_io.specs.Calls.{first_of};
 ghost use Rattle.clog_disk.specs.Changes.{change_at};

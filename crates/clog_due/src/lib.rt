@@ -1,9 +1,9 @@
 //! Which segments of a store may go: those that are closed, of which no refused sync keeps an
 //! entry, and whose entries lie in table files, each table's from the first to the last and what is
-//! between. It is computed by what is counted of the store, each of its entries, its table files and
-//! its dropped segments once. Kept (`IsCounted`): what was counted is the first of them, so that a
-//! further count begins behind it. Laws say that what may go is covered by table files, in which
-//! order it goes, and that the folder is the store's still once it has gone.
+//! between. It is computed by what is counted of the store, each of its entries, its table files
+//! and its dropped segments once. Kept (`IsCounted`): what was counted is the first of them, so
+//! that a further count begins behind it. Laws say that what may go is covered by table files, in
+//! which order it goes, and that the folder is the store's still once it has gone.
 #![tactic(auto)]
 
 mod counted;

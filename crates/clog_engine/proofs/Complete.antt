@@ -250,7 +250,8 @@ module _ (lines : List Mutation) (o : Outside) (s : Sinks) (opens : Told o.files
   drill_completes seed count ReadFault refused = absurd refused
   drill_completes seed count WriteFault refused = absurd refused
   drill_completes seed count DiskFault refused = absurd (quiet.disk refused.0)
-  drill_completes seed count (Damaged name at cause) refused = absurd (not_damaged name at cause refused)
+  drill_completes seed count (Damaged name at cause) refused = absurd (not_damaged name at cause
+      refused)
   drill_completes seed count (BadTable name fault) refused = absurd (no_bad name fault refused)
   drill_completes seed count OutOfMemory refused = tt
   drill_completes seed count (Limit FileBytes most) refused = absurd refused

@@ -253,7 +253,8 @@ module _ {D C : Type 0} (disk : DiskTells D) (clock : ClockTells C)
 
     pub wrote : (now : D) (options : ApplyOptions) (ms : List Mutation)
         → WritesShares disk.files disk.changes opened now base (is_some options.flush_at)
-        options.archive options.drain options.writers ms → SameTold (disk.files opened) (disk.files now)
+        options.archive options.drain options.writers ms → SameTold (disk.files opened) (disk.files
+        now)
         → Wrote (outside_at now) options ms
     wrote now options ms has told = if_told (disk.files start) (disk.files looked)
         (λ (first : Files). (log : List Write) × (history : List LoggedLine)
@@ -289,7 +290,8 @@ module _ {D C : Type 0} (disk : DiskTells D) (clock : ClockTells C)
         → ((then : Files) → disk.files opened ≡ Some then → (first : Files)
         → disk.files looked ≡ Some first → LastsAll first (disk.leaves looked)
         → LeavesShares disk.files disk.changes disk.moment disk.since disk.leaves opened now
-        (bytes_at then) base (is_some options.flush_at) options.archive options.drain options.writers ms least)
+        (bytes_at then) base (is_some options.flush_at) options.archive options.drain
+        options.writers ms least)
         → LastsFirst (outside_at now) options ms least
     unfolding written
     lasts_first now options ms least leaves = if_told (disk.files start) (disk.files looked)
@@ -308,7 +310,8 @@ module _ {D C : Type 0} (disk : DiskTells D) (clock : ClockTells C)
           wrote = written now options ms first is lines.log lines.wrote;
           says = lines.says;
           since = while_written disk.changes disk.moment disk.since disk.leaves disk.read_at
-              disk.lasted_at disk.files start opened now first then.0 base (is_some options.flush_at)
+              disk.lasted_at disk.files start opened now first then.0 base
+              (is_some options.flush_at)
               options.archive options.drain options.writers ms least kept opening lines;
           now = λ image left chance.
               adds_lines first then.0 image said least kept (lines.at_last image left chance);

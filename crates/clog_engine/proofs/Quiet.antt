@@ -145,7 +145,8 @@ refused_behind refuses words line large source bytes lines (Damaged name at caus
 refused_behind refuses words line large source bytes lines (BadTable name fault) refused before =
     before
 refused_behind refuses words line large source bytes lines OutOfMemory refused before = before
-refused_behind refuses words line large source bytes lines (Limit SegmentBytes most) refused before =
+refused_behind refuses words line large source bytes lines (Limit SegmentBytes most) refused
+    before =
     before
 refused_behind refuses words line large source bytes lines (Limit Ids most) refused before = before
 refused_behind refuses words line large source bytes lines (Limit TableFiles most) refused before =

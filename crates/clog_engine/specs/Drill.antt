@@ -67,8 +67,8 @@ use Rattle.clog_engine.specs.Replaying.{ReplayRefused}
 use Rattle.clog_engine.specs.Report.{numbered_line}
 use Rattle.clog_engine.specs.declared.shares.PlannedLines.{PlannedLines}
 
--- The options of `apply` by which a drill's lines are applied: four writers in segments of 1024 KiB,
--- each of which flushes a table at every 1000 of its updates.
+-- The options of `apply` by which a drill's lines are applied: four writers in segments of 1024
+-- KiB, each of which flushes a table at every 1000 of its updates.
 abbrev pub drill_options : ApplyOptions
 drill_options = record {
   writers = 4;

@@ -116,8 +116,8 @@ pub record HasWrittenLog (o : Outside) (options : ApplyOptions) (before : Files)
   pub new : (w : Write) → Contains log w → IsAbove before w.id
 
 -- Where the disk tells its files, these are all changes that it tells, and the segments say a
--- history whose lines are, of each writer, the first of its share. No other name has come than those
--- of these segments, their archive names and table files.
+-- history whose lines are, of each writer, the first of its share. No other name has come than
+-- those of these segments, their archive names and table files.
 abbrev pub Wrote : Outside → ApplyOptions → List Mutation → Type 0
 Wrote o options mutations = IfSome o.files
     (λ before. (log : List Write) × (history : List LoggedLine)

@@ -18,8 +18,8 @@ pub record IsDoable (options : ApplyOptions) : Type 0 where
   pub some_updates : (count : ℕ) → options.flush_at ≡ Some count → 1 ≤ count
   pub few_updates : (count : ℕ) → options.flush_at ≡ Some count → count ≤ 1000000
 
--- How large a log is that has as many writers as are asked for, and whose segments have the capacity
--- that is asked for, and are as many as there may be, of as many tables.
+-- How large a log is that has as many writers as are asked for, and whose segments have the
+-- capacity that is asked for, and are as many as there may be, of as many tables.
 pub record AreSizesOf (options : ApplyOptions) (sizes : Sizes) : Type 0 where
   pub writers : sizes.writers ≡ options.writers
   pub capacity : sizes.capacity ≡ capacity_of options

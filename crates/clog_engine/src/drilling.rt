@@ -71,6 +71,7 @@ fn plan_made<T: Threads + Sync, D: Disk + Drop>(
 {
     let mutations = made(alloc, seed, count)?;
     let updates = count_updates(mutations.as_slice())?;
+    // A match in place of `?`, since the exit speaks of the made lines.
     match plan_lines(rt, alloc, sizes, flush_at, mutations, false) {
         Ok(lines) => Ok((lines, updates)),
         Err(status) => Err(status),

@@ -62,26 +62,35 @@ fn outcome_of<
 /// answers how it ended; the disk comes back in each case.
 ///
 /// Of `apply`, where the source tells its bytes and the disk its files and changes, `Ok` means that
-/// the source was read to its end; that a folder that held segments was recovered: they are gone,
-/// table files came for them, and each other file stands as it was; that each line of the file was
-/// logged once in new segments, with `--writers` each writer's share of the lines in order, whose
-/// ids begin at the greater of the clock's moment and one more than each id that the folder named;
-/// that the folder restores to what it restored to before with the lines' cells merged in, no file
-/// of it damaged; and that the report went out whole, whose receipts are the positions of the
-/// entries, and whose dump is what the folder restores to now. With `--drain` none of these segments
-/// is left: behind them came a table file of each table that the lines touch, and with `--archive`
-/// each has its archive name. Where all in the folder lasted before, and nothing passes a check by
-/// chance, a crash at any moment leaves what restores to that with the first of the lines in the
-/// order of the log, which are of each writer the first of its share, and after `Ok` with all of
-/// them.
+///
+/// - the source was read to its end;
+/// - a folder that held segments was recovered: they are gone, table files came for them, and each
+///   other file stands as it was;
+/// - each line of the file was logged once in new segments, with `--writers` each writer's share of
+///   the lines in order, whose ids begin at the greater of the clock's moment and one more than
+///   each id that the folder named;
+/// - the folder restores to what it restored to before with the lines' cells merged in, no file of
+///   it damaged;
+/// - the report went out whole, whose receipts are the positions of the entries, and whose dump is
+///   what the folder restores to now;
+/// - with `--drain` none of these segments is left: behind them came a table file of each table
+///   that the lines touch, and with `--archive` each has its archive name.
+///
+/// Of such a source and disk, where all in the folder lasted before, and nothing passes a check by
+/// chance, a crash at any moment leaves what restores to what it did before with the first of the
+/// lines in the order of the log, which are of each writer the first of its share, and after `Ok`
+/// with all of them.
 ///
 /// With `--flush-at` each writer flushes a table once it has logged so many updates of it since its
-/// last flush of it: meanwhile table files come, and segments go whose entries all lie in them, with
-/// `--archive` to their archive names. At `Ok` each writer has fewer updates of a table above the
-/// end of the table's last file than that number, and each table of which a writer's share has so
-/// many has a file; no segment of the run is left whose entries table files hold. A table may have
-/// 256 memtables in a run, and where a flush wants a further one it ends with `Memtables`: so only
-/// where some table has at least 255 times that number of updates in the file.
+/// last flush of it: meanwhile table files come, and segments go whose entries all lie in them,
+/// with `--archive` to their archive names.
+///
+/// - At `Ok` each writer has fewer updates of a table above the end of the table's last file than
+///   that number, and each table of which a writer's share has so many has a file; no segment of
+///   the run is left whose entries table files hold.
+/// - A table may have 256 memtables in a run, and where a flush wants a further one it ends with
+///   `Memtables`: so only where some table has at least 255 times that number of updates in the
+///   file.
 ///
 /// With `--sync batch` a writer waits for the sync of each line before it logs its next one, so no
 /// section of a segment holds two lines of one writer, and where a sync is refused it logs no more.
@@ -89,26 +98,38 @@ fn outcome_of<
 /// so). In periodic mode a writer has the log synced behind a line at which the clock tells that
 /// the period has passed since it last had.
 ///
-/// Of `replay` it means that the report has the counts of the folder and what it restores to, and
-/// that without `--ignore-errors` nothing of the folder is damaged; of `scan` that the report tells
-/// what the segment's file holds. Of `drill` it means all that it means of `apply` without options
-/// but `--writers 4`, `--segment-kib 1024` and `--flush-at 1000`, with the made lines as those of
-/// the file, and that the report has their numbers, and those of what the folder then restores to;
-/// the source is not read. A drill of some 510,000 lines or more may end with `Memtables`: of a
-/// thousand lines each of three tables has some 500 updates, and 255,000 of one table are enough.
+/// Of the other commands `Ok` means,
+///
+/// - of `replay`, that the report has the counts of the folder and what it restores to, and that
+///   without `--ignore-errors` nothing of the folder is damaged;
+/// - of `scan`, that the report tells what the segment's file holds;
+/// - of `drill`, all that it means of `apply` without options but `--writers 4`,
+///   `--segment-kib 1024` and `--flush-at 1000`, with the made lines as those of the file, and that
+///   the report has their numbers, and those of what the folder then restores to; the source is not
+///   read.
+///
+/// A drill of some 510,000 lines or more may end with `Memtables`: of a thousand lines each of
+/// three tables has some 500 updates, and 255,000 of one table are enough.
 ///
 /// Where the words ask for what can be done and no fault was counted, it ends with `Ok`, or for
-/// want of memory, of groups or, of a run that flushes while it writes, of memtables. A fault of the
-/// disk is told: without `DiskFault` none was counted. What the words or the mutation file refuse by
-/// themselves leaves the disk uncalled, and what the folder refuses for what it holds leaves it as
-/// it was. After `DiskFault`, `OutOfMemory`, `Groups` and `Memtables` the changes are the first of a
-/// recovery's, or all of these and others: appends to the run's segments, with what a drain changes
-/// behind them; with a flush limit true table files and removals among them. Each table file stands
-/// for an entry and comes behind the entries of its table up to its end, and each removal behind
-/// files that hold its segment; where the disk tells its files, the table files are there. And, under
-/// the two premises above, what a crash leaves restores to what was there before with the first of
-/// the lines that were logged, of each writer the first of its share; the files as they read are one
-/// such image. The gate is told how far each writer and each worker is.
+/// want of memory, of groups or, of a run that flushes while it writes, of memtables. A fault of
+/// the disk is told: without `DiskFault` none was counted. What the words or the mutation file
+/// refuse by themselves leaves the disk uncalled, and what the folder refuses for what it holds
+/// leaves it as it was.
+///
+/// After `DiskFault`, `OutOfMemory`, `Groups` and `Memtables`:
+///
+/// - The changes are the first of a recovery's, or all of these and others: appends to the run's
+///   segments, with what a drain changes behind them; with a flush limit true table files and
+///   removals among them.
+/// - Each table file stands for an entry and comes behind the entries of its table up to its end,
+///   and each removal behind files that hold its segment; where the disk tells its files, the table
+///   files are there.
+/// - Under the two premises above, what a crash leaves restores to what was there before with the
+///   first of the lines that were logged, of each writer the first of its share; the files as they
+///   read are one such image.
+///
+/// The gate is told how far each writer and each worker is.
 pub fn run<
     T: Threads + Wait + Sync,
     R: Source,

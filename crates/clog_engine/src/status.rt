@@ -6,11 +6,11 @@ use clog_scan::Cause;
 use clog_table::TableFault;
 use clog_text::BadLine;
 
-/// How a run ends. Each refusal leaves the disk as it was, but `DiskFault`, `OutOfMemory`, `Groups`,
-/// `Memtables` and `WriteFault`, which comes when all is done. After the first four the folder may
-/// be recovered, in part or whole, and the first of the lines may stand in it; where all of it
-/// lasted before, and nothing passes a check by chance, it restores to what it restored to, with
-/// these.
+/// How a run ends. Each refusal leaves the disk as it was, but `DiskFault`, `OutOfMemory`,
+/// `Groups`, `Memtables` and `WriteFault`, which comes when all is done. After the first four the
+/// folder may be recovered, in part or whole, and the first of the lines may stand in it; where all
+/// of it lasted before, and nothing passes a check by chance, it restores to what it restored to,
+/// with these.
 #[derive(Clone, Copy, Debug, PartialEq, Eq)]
 pub enum Status {
     /// The report was written whole.

@@ -36,6 +36,7 @@ pub record IsBadFile (files : Files) (table : Table) (name : List ℕ) (fault : 
     pub there : finmap.get files name ≡ Some bytes
     pub refused : Refuses table bytes fault
 
+-- why the file of a place is not read: a fault of the disk, want of memory, or what is bad in it
 abbrev pub TableRefused : Option Files → ℕ → ℕ → Place → List ℕ → OpenFault → Type 0
 TableRefused files faults now place name Disk = Rose faults now
 TableRefused files faults now place name OutOfMemory = ⊤

@@ -1,6 +1,6 @@
 //! Tests of the formats and what they are made of, from names and checks to table files, through
-//! public calls. They stand in a crate of their own, since a crate that has tests is proved a second
-//! time with them.
+//! public calls. They stand in a crate of their own, since a crate that has tests is proved a
+//! second time with them.
 #![tactic(auto)]
 
 #[cfg(test)]

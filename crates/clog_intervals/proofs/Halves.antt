@@ -22,7 +22,17 @@ use Rattle.clog_intervals.specs.declared.interval.Interval.{Interval}
 use Rattle.clog_base.specs.Positions.{IsBelow, IsUpTo, is_below}
 use Rattle.clog_intervals.specs.Union.{AreApart}
 use Rattle.clog_intervals.specs.Joined.{BeginAbove}
-use Rattle.clog_base.proofs.PositionOrder.{below_trans, below_is_up_to, up_to_below, up_to_trans, up_to_itself, is_below-true, below-is_below, not_below-up_to, up_to-not_below}
+use Rattle.clog_base.proofs.PositionOrder.{
+  below_trans,
+  below_is_up_to,
+  up_to_below,
+  up_to_trans,
+  up_to_itself,
+  is_below-true,
+  below-is_below,
+  not_below-up_to,
+  up_to-not_below,
+}
 use Rattle.clog_intervals.proofs.Unions.{apart_behind}
 
 begins_above_at : (at : Position) (xs : List Interval) (k : ℕ) (d : Interval) → k < length xs

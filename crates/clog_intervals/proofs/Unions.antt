@@ -44,7 +44,16 @@ use Rattle.clog_intervals.specs.Joined.{
   IsRun,
   IsJoined,
 }
-use Rattle.clog_base.proofs.PositionOrder.{below_trans, below_up_to, up_to_below, up_to_trans, below_is_up_to, not_both, below_or_up_to, up_to_itself}
+use Rattle.clog_base.proofs.PositionOrder.{
+  below_trans,
+  below_up_to,
+  up_to_below,
+  up_to_trans,
+  below_is_up_to,
+  not_both,
+  below_or_up_to,
+  up_to_itself,
+}
 use Rattle.clog_intervals.proofs.Order.{next_is_least, next_between, from_least, to_greatest}
 
 pub Holds-left : (xs ys : List Interval) (p : Position) → Holds xs p → Holds (xs ++ ys) p

@@ -1,6 +1,6 @@
 //! One interval of the log, and where a place stands to it.
 ghost use Rattle.std.specs.Prelude.{◌≡◌, not};
-ghost use Rattle.clog_base.specs.Positions.{is_below, IsUpTo};
+ghost use Rattle.clog_base.specs.Positions.{is_below};
 ghost use Rattle.clog_intervals.specs.Joined.{IsJoined};
 
 use clog_base::Position;

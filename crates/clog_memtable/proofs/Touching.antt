@@ -1,5 +1,25 @@
 -- Memtables of notes, table by table; and that they may be flushed once the notes are synced.
-use Rattle.std.proofs.Common.{◌≡◌, ℕ, ◌+◌, ◌<◌, ◌≤◌, inl, inr, List, [], ◌∷◌, ◌++◌, length, get_or, sym, ap, subst, arith, refl, eqb-true}
+use Rattle.std.proofs.Common.{
+  ◌≡◌,
+  ℕ,
+  ◌+◌,
+  ◌<◌,
+  ◌≤◌,
+  inl,
+  inr,
+  List,
+  [],
+  ◌∷◌,
+  ◌++◌,
+  length,
+  get_or,
+  sym,
+  ap,
+  subst,
+  arith,
+  refl,
+  eqb-true,
+}
 use Rattle.std.specs.Prelude.{◌==◌, ◌^◌, Bool, Contains, true, false, if◌then◌else◌}
 use Rattle.std.proofs.lemmas.Bool.{cases_lt}
 use Rattle.std.proofs.lemmas.List.{get_or_default, length-append}

@@ -1,6 +1,6 @@
 //! The cells of a table are gathered from lists of entries, one after another: what the boxes of a
 //! memtable hold of it.
-ghost use Rattle.std.specs.Prelude.{◌≡◌, ◌∷◌, ◌++◌, [], nat_lt, List, OnOk};
+ghost use Rattle.std.specs.Prelude.{◌∷◌, ◌++◌, [], nat_lt, List, OnOk};
 ghost use Rattle.std.specs.List.{filter};
 ghost use Rattle.clog_memtable.specs.Filling.{AreWhole};
 ghost use Rattle.clog_memtable.specs.Gathering.{IsGathered};

@@ -54,7 +54,8 @@ fn memtable_of(
 }
 
 /// The memtables of whole notes up to a key, in the order of their tables. `lowers` has the key
-/// above which each table's entries end, by the table's number; an entry at or below it is left out.
+/// above which each table's entries end, by the table's number; an entry at or below it is left
+/// out.
 pub fn memtables_of(
     alloc: Global,
     notes: &[EntryNote],

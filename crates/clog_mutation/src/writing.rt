@@ -5,11 +5,7 @@ ghost use Rattle.clog_mutation.specs.Limits.{
   IsWithinLimits,
   UpdateIsWithinLimits,
 };
-ghost use Rattle.clog_mutation.specs.Stored.{
-  IsStoredUpdate,
-  IsStored,
-  IsPayload,
-};
+ghost use Rattle.clog_mutation.specs.Stored.{IsStoredUpdate, IsPayload};
 ghost use Rattle.clog_mutation.specs.Payload.{update_bytes, payload_of};
 ghost use Rattle.clog_fields.specs.Fields.{AppendsPart};
 

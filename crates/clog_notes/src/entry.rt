@@ -1,5 +1,5 @@
 //! What a mutation deposits: the bytes of its entry, and the set of its tables.
-ghost use Rattle.std.specs.Prelude.{◌≡◌, ◌≤◌, ◌^◌, ◌+◌, IfOk, length};
+ghost use Rattle.std.specs.Prelude.{◌≡◌, ◌≤◌, ◌^◌, IfOk};
 ghost use Rattle.std.specs.List.{AllByRecursion};
 ghost use Rattle.clog_mutation.specs.Limits.{IsWithinLimits, UpdateIsWithinLimits};
 ghost use Rattle.clog_mutation.specs.Stored.{IsStored};

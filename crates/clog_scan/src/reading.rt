@@ -1,6 +1,6 @@
 //! The scan: a cursor goes over the bytes once. It keeps that everything in front of it is a header
 //! and markers and entries in their places.
-ghost use Rattle.std.specs.Prelude.{◌≡◌, ◌<◌, ◌^◌, length, IfOk};
+ghost use Rattle.std.specs.Prelude.{◌<◌, ◌^◌, length, IfOk};
 ghost use Rattle.clog_entry.specs.Spelled.{IsHeaderAt};
 ghost use Rattle.clog_scan.specs.Laws.{HasRanges};
 ghost use Rattle.clog_scan.specs.Segment.{Scans};

@@ -99,7 +99,8 @@ module _ {D : Type 0} (files : D → Option Files) (moment : D → ℕ)
             subst (λ (ps : List Write). Living first ps sections) (sym none_past)
             (subst (λ (l : List Section). Living first [] l) (sym none)
             (subst (λ (d : D). Living d [] []) (sym same)
-            (lives_at_first files moment since leaves read_at lasted_at disk opened id now reads only
+            (lives_at_first files moment since leaves read_at lasted_at disk opened id now reads
+            only
             (rest_at_first (files disk) (leaves disk) id (lasted_at disk (moment disk)) lasts rests
             (subst (λ (t : ℕ). lasted_at disk t) now lasted)))));
       }
@@ -140,7 +141,8 @@ module _ {D : Type 0} (files : D → Option Files) (moment : D → ℕ)
         synced = synced;
         is_stopped = stopped;
       }) size_now known_now
-  begun_on s size disk sections synced stopped size_now known_now begun later few stored ends torn here
+  begun_on s size disk sections synced stopped size_now known_now begun later few stored ends torn
+      here
       knows on =
       record {
         began = omega (arith, begun.began, later.no_sooner);
@@ -213,7 +215,8 @@ module _ {D : Type 0} (files : D → Option Files) (moment : D → ℕ)
           (subst (λ (l : List Write). Contains l w) past_is among)
 
   -- it goes on in a further segment, where this one has no section
-  pub begun_skipped : (s : State D) (size next : ℕ) {known : Option Sequences} → s.sections ≡ [] → s.id < next
+  pub begun_skipped : (s : State D) (size next : ℕ) {known : Option Sequences} → s.sections ≡ []
+      → s.id < next
       → next < 2 ^ 63 → s.is_stopped ≡ false
       → HasBegun files moment since leaves read_at lasted_at s size known
       → (Lives files moment since leaves read_at lasted_at s

@@ -200,8 +200,10 @@ module _ {D : Type 0} (files : D → Option Files) (moment : D → ℕ)
   -- what images have shown since the opening they show still, and each image of a call shows what
   -- lasted before it
   pub shown_on : (a b : State D) → a.opened ≤ moment a.disk → Outliving a b
-      → ShownSince files moment since read_at lasted_at a.first a.disk a.opened a.past a.id a.sections
-      → ShownSince files moment since read_at lasted_at b.first b.disk b.opened b.past b.id b.sections
+      → ShownSince files moment since read_at lasted_at a.first a.disk a.opened a.past a.id
+      a.sections
+      → ShownSince files moment since read_at lasted_at b.first b.disk b.opened b.past b.id
+      b.sections
   shown_on a b began on shown =
       both (files b.disk) (read_at b.disk b.opened) _ (λ g r is read at may.
       let before = told_before (files a.disk) (files b.disk) g on.told is in

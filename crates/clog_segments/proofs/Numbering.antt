@@ -246,5 +246,6 @@ pub next_known : {E : Type 0} (told : Option Files) (known : Sequences) (table :
     (r : Result ℕ E) → AreOfNames told known
     → IfOk r (λ n. n ≡ get_or known.greatest table.0 0 + 1) → IfOk r (λ n. 0 < n)
     → IfOk r (λ n. n < 2 ^ 63) → IfOk r (IsNextSequence told table)
-next_known told known table (Ok n) are is starts fits = next_of told known table n are is starts fits
+next_known told known table (Ok n) are is starts fits = next_of told known table n are is starts
+    fits
 next_known told known table (Err fault) are is starts fits = tt

@@ -39,8 +39,8 @@ module _ (id count : ℕ) (what : Option (List ℕ)) where
     enough = enough;
     reads = (left_reads id part more (subst (IsStored id) parted stored) (unwrap_or what [])
         (subst (λ (l : List Section). NoChance id l (unwrap_or what [])) parted chance) what refl
-        (subst (λ (l : List Section). Tail (length (segment_bytes id part)) (segment_bytes id l) what)
-        parted tail)).1;
+        (subst (λ (l : List Section). Tail (length (segment_bytes id part)) (segment_bytes id l)
+        what) parted tail)).1;
   }
 
   pub reads_torn : (sections : List Section) → IsStored id sections

@@ -65,8 +65,8 @@ DropsFiles archives base ordinals told now (Ok x) =
 DropsFiles archives base ordinals told now (Err why) =
     IsLeftBy archives base ordinals why.dropped why.is_named why.fault told now
 
--- Whatever was answered, the first have gone, and all but one name of the next one reads so; at that
--- one there stands what may of a segment that was to go.
+-- Whatever was answered, the first have gone, and all but one name of the next one reads so; at
+-- that one there stands what may of a segment that was to go.
 abbrev pub DropsButOne : {T : Type 0} → Bool → ℕ → List ℕ → Option Files → Option Files
     → Result T DropFault → Type 0
 DropsButOne archives base ordinals told now (Ok x) = ⊤

@@ -32,8 +32,8 @@ use Rattle.clog_segments.specs.Numbering.{KeepsSequences}
 use Rattle.clog_segments.specs.Torn.{HandStands}
 
 -- A store: its disk, the moment of its opening and the disk then, the segments that it has written,
--- each of which lasts, the one that it writes with the sections that it was handed, how many of them
--- last, and whether the disk has failed.
+-- each of which lasts, the one that it writes with the sections that it was handed, how many of
+-- them last, and whether the disk has failed.
 pub record State (D : Type 0) : Type 0 where
   pub disk : D
   pub opened : ℕ
@@ -129,8 +129,8 @@ AllLasts files leaves s =
     (s.synced ≡ length s.sections)
     × (0 < length s.sections → Lasts (files s.disk) (leaves s.disk) (segment_name_of 6 s.id))
 
--- What stands under the name of the segment at hand, whether or not the disk has failed: each section
--- that lasts, and of the others all, or all but the last and some bytes in its place.
+-- What stands under the name of the segment at hand, whether or not the disk has failed: each
+-- section that lasts, and of the others all, or all but the last and some bytes in its place.
 abbrev pub StandsHere : {D : Type 0} → (D → Option Files) → State D → Type 0
 StandsHere files s = HandStands (files s.disk) s.id s.synced s.sections
 

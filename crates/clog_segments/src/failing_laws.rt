@@ -18,8 +18,8 @@ pub fn a_failed_put_leaves_no_bad_table_file()
         → AreGoodTables first → HoldsButOne first log deeds now → AreGoodTables now }
 {}
 
-/// The segment at hand, whatever its disk has failed at, reads as its sections but perhaps the last,
-/// each that lasts among them, and then as the first entries of that one.
+/// The segment at hand, whatever its disk has failed at, reads as its sections but perhaps the
+/// last, each that lasts among them, and then as the first entries of that one.
 pub fn a_torn_segment_at_hand_reads_as_a_first_part()
     ensures { (id count : ℕ) (sections : List Section) (what : Option (List ℕ))
         → IsStored id sections → StandsTorn id count sections what

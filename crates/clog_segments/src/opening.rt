@@ -79,7 +79,7 @@ fn recover_folder<D: Disk>(
     let ids = segment_ids(alloc, names)?;
     let cells = live_cells(alloc, folder)?;
     let top = top_of(folder.segments.as_slice());
-    // A match in place of `?`, since the exit speaks of the folder.
+    // Matches in place of `?`, since the exits speak of the folder.
     match put_tables(alloc, disk, names, cells, top) {
         Ok(()) => {}
         Err(fault) => return Err(fault),
@@ -182,6 +182,7 @@ pub fn recover<D: Disk>(alloc: Global, disk: &mut D, moment: u64) -> Result<u64,
         → LastsAll first (D.leaves disk.old)
         → LeavesOnly D.moment D.since disk.old disk.new (ComesFrom first) }
 {
+    // Matches in place of `?`, since the exits speak of the folder.
     let known = match look(alloc, disk, moment) {
         Ok(known) => known,
         Err(fault) => return Err(fault),

@@ -73,6 +73,7 @@ fn put_table_of<D: Disk>(
     }
     let start = Position { id: 0, offset: 0 };
     let bytes = encode_parts(alloc, table, start, top, part)?;
+    // A match in place of `?`, since the exit speaks of the table.
     match put_recovered(disk, table, next_sequence(names, table), &bytes) {
         Ok(()) => Ok(()),
         Err(fault) => Err(fault_of(fault)),

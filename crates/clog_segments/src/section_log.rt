@@ -314,8 +314,8 @@ impl<D: Disk> SectionLog<D> {
     /// folder restored then and the first of the entries, and each image of now all that last.
     /// Where all sections of the segment at hand last, its name does, whatever lasted then. What
     /// stands under that name are its sections, or after a failure all but the last and some bytes
-    /// in its place. Each image since the opening holds at most what a crash left then, parts of the
-    /// log's segments, archive names of earlier ones, and table files with the next sequences.
+    /// in its place. Each image since the opening holds at most what a crash left then, parts of
+    /// the log's segments, archive names of earlier ones, and table files with the next sequences.
     pub fn into_disk(self) -> D
         ensures disk { result ≡ self.disk }
         ensures stored { IsStored self.id self.sections }

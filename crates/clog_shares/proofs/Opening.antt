@@ -80,7 +80,8 @@ sync_opens w opened v after answer S t =
 
 unswitched : (before after : List OwnStep) (G : HasGrown before after) → SwitchesNone G.newer
     → OpensNone before after
-unswitched before after G none t = none_more t before after G.newer G.is (none_opened t G.newer none)
+unswitched before after G none t = none_more t before after G.newer G.is (none_opened t G.newer
+    none)
 
 pub commit_opens : (size : PathSize) (w : ℕ) (before : List OwnStep) (p : Prepared) (v : View)
     (mode : SyncCore) (c : Commit) → IsCommitted mode size w before p c v

@@ -340,7 +340,8 @@ module _ (w : ℕ) (sizes : Sizes) (l : Line) (p : Prepared) (before after : Lis
     (a : AddsWrite w p before after) (G : HasGrown before after) (none : OpensNone before after)
     (prepared : IsPrepared sizes l.number l.mutation p) where
   -- a write more is counted
-  pub one_more : (tally : Option UpdateTally) (counts : Option LineCounts) (now : Option UpdateTally)
+  pub one_more : (tally : Option UpdateTally) (counts : Option LineCounts)
+      (now : Option UpdateTally)
       → limit_of now ≡ limit_of tally → AddsCounts tally counts now
       → IsCountedFor (limit_of tally) l.mutation counts → MayTally w tally before
       → MayTally w now after

@@ -1,15 +1,6 @@
 //! The seats of a path are given to workers, and all workers commit their shares in threads. The
 //! first fault of a worker ends the run: the others stop behind their commits in hand.
-ghost use Rattle.std.specs.Prelude.{
-  ◌≡◌,
-  ℕ,
-  List,
-  [],
-  Option,
-  Some,
-  IsSome,
-  true,
-};
+ghost use Rattle.std.specs.Prelude.{◌≡◌, ℕ, List, Option, Some, IsSome, true};
 ghost use Rattle.clog_spec.specs.Sizes.{most_tables};
 ghost use Rattle.clog_mutation.specs.declared.mutation.Mutation.{Mutation};
 ghost use Rattle.clog_applied.specs.History.{Line};

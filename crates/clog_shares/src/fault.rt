@@ -9,8 +9,8 @@ use write_path::{Flush, Row, SyncAnswer};
 /// Why lines were not all logged by their writers.
 #[derive(Clone, Copy, Debug, PartialEq, Eq)]
 pub enum WriteFault {
-    /// Memory was refused. A writer that has stopped for another one's fault tells this too; the run
-    /// then tells that other fault.
+    /// Memory was refused. A writer that has stopped for another one's fault tells this too; the
+    /// run then tells that other fault.
     OutOfMemory,
     /// The log has no further segment for a line. Other lines may be logged.
     Spent,

@@ -1,7 +1,7 @@
-//! A writer, and how it commits one write. In batch mode the commit waits for the sync of its entry;
-//! in periodic mode the writer has the log synced behind it where the period has passed. Then it
-//! flushes the tables of which it has logged so many updates, where it flushes.
-ghost use Rattle.std.specs.Prelude.{◌≡◌, ℕ, IsSome, None, length, true};
+//! A writer, and how it commits one write. In batch mode the commit waits for the sync of its
+//! entry; in periodic mode the writer has the log synced behind it where the period has passed.
+//! Then it flushes the tables of which it has logged so many updates, where it flushes.
+ghost use Rattle.std.specs.Prelude.{◌≡◌, ℕ, None, length};
 ghost use Rattle.clog_mutation.specs.declared.mutation.Mutation.{Mutation};
 ghost use Rattle.clog_applied.specs.History.{Line};
 ghost use Rattle.clog_shares.specs.Crews.{KnowsWhy, MayLack};

@@ -81,15 +81,16 @@ module _ {D : Type 0} (files : D → Option Files) (moment : D → ℕ)
       → rolled.is_stopped ≡ a.is_stopped
       → a.synced ≡ length a.sections → OnOk result (b ≡ rolled) → OnErr result (b ≡ a)
       → (Living a → OnOk result (LivingOn a b)) → Going a b
-  goes_rolled a b rolled (Ok done) only same opened at_first stops all rolls refused lives = record {
-    opened = ap (λ (s : State D). s.opened) rolls ∙ opened;
-    first = ap (λ (s : State D). s.first) rolls ∙ at_first;
-    later = subst (λ (d : D). IsLater moment read_at lasted_at a.disk d)
-        (sym same ∙ sym (ap (λ (s : State D). s.disk) rolls)) (later_same a.disk);
-    lives = lives;
-    names = names_rolled files leaves a b (ap (λ (s : State D). s.disk) rolls ∙ same)
-        (ap (λ (s : State D). s.is_stopped) rolls ∙ stops) all;
-  }
+  goes_rolled a b rolled (Ok done) only same opened at_first stops all rolls refused
+      lives = record {
+        opened = ap (λ (s : State D). s.opened) rolls ∙ opened;
+        first = ap (λ (s : State D). s.first) rolls ∙ at_first;
+        later = subst (λ (d : D). IsLater moment read_at lasted_at a.disk d)
+            (sym same ∙ sym (ap (λ (s : State D). s.disk) rolls)) (later_same a.disk);
+        lives = lives;
+        names = names_rolled files leaves a b (ap (λ (s : State D). s.disk) rolls ∙ same)
+            (ap (λ (s : State D). s.is_stopped) rolls ∙ stops) all;
+      }
   goes_rolled a b rolled (Err fault) only same opened at_first stops all rolls refused lives =
       subst (λ (s : State D). Going a s) (sym refused) (goes_still a only)
 

@@ -36,7 +36,8 @@ use std::snapshot::Snapshot;
 #[derive(Drop)]
 pub struct Store<D: Disk> {
     /// What was counted at the last discard; nothing before the first, and behind want of memory.
-    /// It stands first: `Send` is looked for field by field, each a level deeper than the one before.
+    /// It stands first: `Send` is looked for field by field, each a level deeper than the one
+    /// before.
     counted: Option<Counted>,
     notes: NoteLog<D>,
     /// A segment that is dropped gets its archive name first.

@@ -172,8 +172,8 @@ fn stays_at<R: Threads>(rt: &R, alloc: Global, call: u64) -> Option<bool> {
 
 #[test]
 fn a_stopped_store_changes_nothing(rt: HostRuntime) -> Result<(), Fail> {
-    // A failing call of the opening refuses that; one of the put, its listing or the file, stops the
-    // store.
+    // A failing call of the opening refuses that; one of the put, its listing or the file, stops
+    // the store.
     let mut has_stopped = false;
     for call in 1..8 {
         match stays_at(&rt, rt.alloc(), call) {

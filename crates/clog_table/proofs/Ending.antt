@@ -125,7 +125,8 @@ module _ (table : Table) (bytes : List ℕ) (head : Head) (cells : Pairs) (rest 
   end_refused Interval h = absurd h
 
   pub refused_at_end : (fault : TableFault)
-      → RefusesEnd (cells_text bytes rest) rest (place (length bytes) rest) fault → Refuses table bytes fault
+      → RefusesEnd (cells_text bytes rest) rest (place (length bytes) rest) fault → Refuses table
+      bytes fault
   refused_at_end fault h =
       end_refused fault (subst (λ (l : List ℕ). RefusesEnd l rest (place (length bytes) rest) fault)
       text_is h)

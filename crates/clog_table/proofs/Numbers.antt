@@ -1,5 +1,21 @@
 -- Numbers of four and eight bytes at the front of others.
-use Rattle.std.proofs.Common.{◌≡◌, ℕ, ◌<◌, ◌≤◌, ◌^◌, List, [], ◌∷◌, length, take, refl, sym, ap, ◌∙◌, arith}
+use Rattle.std.proofs.Common.{
+  ◌≡◌,
+  ℕ,
+  ◌<◌,
+  ◌≤◌,
+  ◌^◌,
+  List,
+  [],
+  ◌∷◌,
+  length,
+  take,
+  refl,
+  sym,
+  ap,
+  ◌∙◌,
+  arith,
+}
 use Rattle.std.specs.Int.{w32, w64, to_be_bytes, from_be_bytes}
 use Rattle.std.proofs.lemmas.Nat.{
   be_bytes_4,
@@ -33,14 +49,14 @@ eight_at (a ∷ b ∷ c ∷ d ∷ e ∷ f ∷ g ∷ i ∷ bs) h = refl
 pub four_spelled : (bs : List ℕ) → 4 ≤ length bs → IsBytes bs
     → take 4 bs ≡ to_be_bytes w32 (from_be_bytes w32 bs)
 four_spelled bs h fits =
-    sym (be_bytes_4 (take 4 bs) (from_be_bytes w32 bs) (length-take-le 4 bs h) (take-IsBytes 4 bs fits)
-    (four_at bs h))
+    sym (be_bytes_4 (take 4 bs) (from_be_bytes w32 bs) (length-take-le 4 bs h) (take-IsBytes 4 bs
+    fits) (four_at bs h))
 
 pub eight_spelled : (bs : List ℕ) → 8 ≤ length bs → IsBytes bs
     → take 8 bs ≡ to_be_bytes w64 (from_be_bytes w64 bs)
 eight_spelled bs h fits =
-    sym (be_bytes_8 (take 8 bs) (from_be_bytes w64 bs) (length-take-le 8 bs h) (take-IsBytes 8 bs fits)
-    (eight_at bs h))
+    sym (be_bytes_8 (take 8 bs) (from_be_bytes w64 bs) (length-take-le 8 bs h) (take-IsBytes 8 bs
+    fits) (eight_at bs h))
 
 pub four_below : (bs : List ℕ) → IsBytes bs → from_be_bytes w32 bs < 2 ^ 32
 four_below bs fits = omega (arith, fits 0, fits 1, fits 2, fits 3)

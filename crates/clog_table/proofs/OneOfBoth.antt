@@ -230,7 +230,8 @@ module _ (table : Table) (bytes : List ℕ) (head : Head) (has : HasHead table b
         elim (decided _ (bytes_eq-Decides (take 4 rest) (check_bytes (cells_bytes cells)))) [
           | inr wrong ↦ ended cells rest front all CellsCheck (λ e. cc e) (long, wrong)
           | inl right ↦ elim (below_or 4 (length rest)) [
-            | inl more ↦ ended cells rest front all (Trailing (place (length bytes) rest + 4)) (λ e. cc e)
+            | inl more ↦ ended cells rest front all (Trailing (place (length bytes) rest + 4))
+                (λ e. cc e)
                 (right, more, refl)
             | inr whole ↦
                 let text = text_is table bytes head cells rest has front all in
@@ -278,7 +279,8 @@ module _ (table : Table) (bytes : List ℕ) (head : Head) (has : HasHead table b
             }))
             (back-IsBytes (cell_bytes pair) x.1 (subst IsBytes t.0 fits))
             (omega (arith, count, length_push cells pair))
-        | inr not ↦ refused (Order (place (length bytes) rest)) (known_order (place (length bytes) rest))
+        | inr not ↦ refused (Order (place (length bytes) rest)) (known_order (place (length bytes)
+            rest))
             (refused_here bytes head.table head.count (behind_head bytes) cells rest
             (Order (place (length bytes) rest)) front wanted (
               refl,

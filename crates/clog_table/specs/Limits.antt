@@ -18,7 +18,7 @@ use Rattle.clog_table.specs.declared.table_file.TableFile.{TableFile}
 abbrev pub IsThisTable : Table → Table → Type 0
 IsThisTable found table = (found.0 < most_tables) × (found ≡ table)
 
--- whether it is
+-- whether a table is the one that is asked for, and below 16
 abbrev pub is_this_table : Table → Table → Bool
 is_this_table found table = nat_lt found.0 most_tables && found.0 == table.0
 

@@ -83,6 +83,7 @@ pub fn check_file(bytes: &[u8], table: Table) -> Result<Head, TableFault>
     ensures known { IfErr result (λ fault. fault ≢ no_memory) }
 {
     let head = head_of(bytes, table)?;
+    // Matches in place of `?`, since the exits speak of what was read.
     match rest_of(bytes, head) {
         Ok(rest) => match judge_end(bytes, rest) {
             Ok(()) => Ok(head),

@@ -158,7 +158,8 @@ fn take_cell<'a>(
 /// behind the cells.
 pub(crate) fn judge_end(bytes: &[u8], rest: &[u8]) -> Result<(), TableFault>
     requires { head_size + length rest.now ≤ length bytes.now }
-    ensures { EndGives (cells_text bytes.now rest.now) rest.now (place (length bytes.now) rest.now) result }
+    ensures { EndGives (cells_text bytes.now rest.now) rest.now
+        (place (length bytes.now) rest.now) result }
 {
     if rest.len() < 4 {
         return Err(TableFault::Short);

@@ -1,7 +1,7 @@
 //! What a crash leaves once commits have returned. Two writers of a path in batch mode commit in
 //! turn on one thread, so the moment of the disk is known at which each commit has returned: each
-//! image of each moment from there on restores the line. No schedule is in it, and behind the flush
-//! the first line is in a table file alone.
+//! image of a sample of each moment from there on restores the line. No schedule is in it, and
+//! behind the flush the first line is in a table file alone.
 use crate::alone::payload_of;
 use crate::engine::words_of;
 use crate::pair::Pair;
@@ -140,7 +140,9 @@ fn losing_moments<R: Threads + Wait + Sync>(
 
 // A commit is an append and a sync, and a close makes no call of the disk.
 #[test]
-fn each_image_restores_the_lines_whose_commits_have_returned(rt: HostRuntime) -> Result<(), Fail> {
+fn sampled_images_restore_the_lines_whose_commits_have_returned(
+    rt: HostRuntime,
+) -> Result<(), Fail> {
     let returns = moments_of_returns(&rt, rt.alloc())?;
     assert_eq!(rt; returns.as_slice(), [2, 4, 6, 10].as_slice());
     let losing = losing_moments(&rt, rt.alloc(), returns.as_slice())?;

@@ -1,6 +1,6 @@
 //! A path of one seat over a store over a disk in memory, for tests of what its commits and flushes
 //! are answered. What the calls of the path ask is kept by the type.
-ghost use Rattle.std.specs.Prelude.{◌≡◌, ℕ, ◌<◌, ◌^◌, true, false, is_some, IfOk};
+ghost use Rattle.std.specs.Prelude.{◌≡◌, ◌<◌, ◌^◌, true, false, is_some, IfOk};
 ghost use Rattle.clog_mutation.specs.declared.mutation.Mutation.{Mutation};
 ghost use Rattle.path_core.specs.Keeper.{IsFresh};
 ghost use Rattle.path_table.specs.Members.{IsOf};

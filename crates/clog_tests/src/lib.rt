@@ -1,6 +1,6 @@
-//! Tests of lines that writers log over a disk in memory, of the engine, and of a path over a store,
-//! through their public calls. They stand in a crate of their own, since a crate that has tests is
-//! proved a second time with them.
+//! Tests of lines that writers log over a disk in memory, of the engine, and of a path over a
+//! store, through their public calls. They stand in a crate of their own, since a crate that has
+//! tests is proved a second time with them.
 #![tactic(auto)]
 
 #[cfg(test)]

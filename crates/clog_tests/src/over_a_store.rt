@@ -1,6 +1,6 @@
-//! A path of one seat over a store over a disk in memory: what its commits and flushes are answered,
-//! and which files its disk has once it is closed. The places were worked out by hand from the sizes
-//! of entries and markers.
+//! A path of one seat over a store over a disk in memory: what its commits and flushes are
+//! answered, and which files its disk has once it is closed. The places were worked out by hand
+//! from the sizes of entries and markers.
 use crate::alone::{Alone, payload_of};
 use clog_base::{Key, Position, Table, segment_name, table_name};
 use clog_disk::{Disk, MemDisk};

@@ -1,6 +1,6 @@
 //! The generator of lines for drills: each line is made of one number of a sequence that the seed
 //! begins, so that the same seed makes the same lines everywhere.
-ghost use Rattle.std.specs.Prelude.{◌≡◌, ◌<◌, ◌++◌, [], ◌∷◌, List, codes, decimal, pos, IfOk};
+ghost use Rattle.std.specs.Prelude.{◌≡◌, ◌<◌, ◌++◌, [], ◌∷◌, codes, decimal, pos, IfOk};
 ghost use Rattle.clog_base.specs.declared.cell.Kind.TheVariants.{Live};
 ghost use Rattle.clog_text.specs.Made.{
   next_number,

@@ -1,6 +1,31 @@
 -- Options of which each is one of the command's, none is there twice, and each has a value where
 -- it should, are tidy.
-use Rattle.std.proofs.Common.{◌≡◌, ◌≤◌, List, [], ◌∷◌, ◌++◌, ◌||◌, ◌&&◌, Bool, true, false, is_some, nat_le, count_by, Option, Some, unwrap_or, if◌then◌else◌, refl, ap, subst, sym, ◌∙◌, arith}
+use Rattle.std.proofs.Common.{
+  ◌≡◌,
+  ◌≤◌,
+  List,
+  [],
+  ◌∷◌,
+  ◌++◌,
+  ◌||◌,
+  ◌&&◌,
+  Bool,
+  true,
+  false,
+  is_some,
+  nat_le,
+  count_by,
+  Option,
+  Some,
+  unwrap_or,
+  if◌then◌else◌,
+  refl,
+  ap,
+  subst,
+  sym,
+  ◌∙◌,
+  arith,
+}
 use Rattle.std.proofs.lemmas.Bool.{leb-true}
 use Rattle.std.proofs.lemmas.Slice.Eq.{bytes_eq-Decides}
 use Rattle.std.specs.List.{list_all, list_any}

@@ -1,8 +1,47 @@
 -- What `clap` promises of a command with options alone, in our words.
-use Rattle.std.proofs.Common.{◌≡◌, ℕ, List, [], ◌∷◌, ◌||◌, ◌&&◌, map, Bool, true, false, not, is_some, slice_get, slice_index, ◌==◌, inl, inr, Option, Some, None, option_map, option_and_then, unwrap_or, if◌then◌else◌, refl, ap, ap₂, sym, ◌∙◌}
+use Rattle.std.proofs.Common.{
+  ◌≡◌,
+  ℕ,
+  List,
+  [],
+  ◌∷◌,
+  ◌||◌,
+  ◌&&◌,
+  map,
+  Bool,
+  true,
+  false,
+  not,
+  is_some,
+  slice_get,
+  slice_index,
+  ◌==◌,
+  inl,
+  inr,
+  Option,
+  Some,
+  None,
+  option_map,
+  option_and_then,
+  unwrap_or,
+  if◌then◌else◌,
+  refl,
+  ap,
+  ap₂,
+  sym,
+  ◌∙◌,
+}
 use Rattle.std.specs.List.{AllByRecursion, list_all, list_any}
 use Rattle.std.proofs.lemmas.Bool.Decides.{eqb_tells}
-use Rattle.clap.specs.Faults.{check_fault, default_fault, defaults_fault, fault_of, built_fault, is_simple_and_free, level_fault}
+use Rattle.clap.specs.Faults.{
+  check_fault,
+  default_fault,
+  defaults_fault,
+  fault_of,
+  built_fault,
+  is_simple_and_free,
+  level_fault,
+}
 use Rattle.clap.specs.Kinds.{HasKind, Kinds, check_kinds}
 use Rattle.clap.specs.Lexer.{is_long_word}
 use Rattle.clap.specs.Matches.{first_value, one_text}

@@ -1,5 +1,38 @@
 -- What `clap` reads of a word that begins with two dashes.
-use Rattle.std.proofs.Common.{◌≡◌, ◌≢◌, ◌<◌, ℕ, [], ◌∷◌, ◌++◌, ◌==◌, ◌+◌, drop, suc, take, eqb-true, length, Bool, true, false, Option, Some, None, refl, ap, ap₂, subst, unwrap_or, option_and_then, if◌then◌else◌, sym, ◌∙◌, inl, inr, arith}
+use Rattle.std.proofs.Common.{
+  ◌≡◌,
+  ◌≢◌,
+  ◌<◌,
+  ℕ,
+  [],
+  ◌∷◌,
+  ◌++◌,
+  ◌==◌,
+  ◌+◌,
+  drop,
+  suc,
+  take,
+  eqb-true,
+  length,
+  Bool,
+  true,
+  false,
+  Option,
+  Some,
+  None,
+  refl,
+  ap,
+  ap₂,
+  subst,
+  unwrap_or,
+  option_and_then,
+  if◌then◌else◌,
+  sym,
+  ◌∙◌,
+  inl,
+  inr,
+  arith,
+}
 use Rattle.std.proofs.lemmas.Bool.Decides.{eqb_tells}
 use Rattle.std.specs.List.{position_or_len}
 use Rattle.std.specs.Str.{bytes_eq}

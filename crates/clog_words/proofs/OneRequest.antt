@@ -117,7 +117,8 @@ one_apply : (settings : List Setting) (x y : ApplyOptions) → SaysApply setting
 one_apply settings x y e f =
     let writers =
     one_number 1 1 64 (said (codes "writers") settings) x.writers y.writers e.writers f.writers in
-    let sync = one_sync (said (codes "sync") settings) (said (codes "period") settings) x.sync y.sync e.sync f.sync in
+    let sync = one_sync (said (codes "sync") settings) (said (codes "period") settings) x.sync
+    y.sync e.sync f.sync in
     let kib =
     one_number 32768 4 32768 (said (codes "segment-kib") settings) x.segment_kib y.segment_kib
     e.segment_kib f.segment_kib in

@@ -1,6 +1,33 @@
 -- What is found of an option at the end of a walk: its value where it is given, and for a mark
 -- whether it is.
-use Rattle.std.proofs.Common.{◌≡◌, List, [], ◌∷◌, ◌++◌, ◌||◌, ◌⊎◌, inl, inr, map, fold, find, Bool, true, false, is_some, Option, Some, None, option_map, if◌then◌else◌, codes, refl, ap, sym, ◌∙◌}
+use Rattle.std.proofs.Common.{
+  ◌≡◌,
+  List,
+  [],
+  ◌∷◌,
+  ◌++◌,
+  ◌||◌,
+  ◌⊎◌,
+  inl,
+  inr,
+  map,
+  fold,
+  find,
+  Bool,
+  true,
+  false,
+  is_some,
+  Option,
+  Some,
+  None,
+  option_map,
+  if◌then◌else◌,
+  codes,
+  refl,
+  ap,
+  sym,
+  ◌∙◌,
+}
 use Rattle.std.proofs.lemmas.List.Folds.{list_any-append}
 use Rattle.std.proofs.lemmas.Slice.Eq.{bytes_eq-Decides}
 use Rattle.std.specs.List.{list_any}

@@ -1,5 +1,29 @@
 -- The options that words give are determined by the words.
-use Rattle.std.proofs.Common.{◌≡◌, ℕ, ◌<◌, List, [], ◌∷◌, ◌++◌, length, get_or, drop, Option, Some, None, refl, ap, ap₂, subst, sym, ◌∙◌, inl, inr, arith, length-append}
+use Rattle.std.proofs.Common.{
+  ◌≡◌,
+  ℕ,
+  ◌<◌,
+  List,
+  [],
+  ◌∷◌,
+  ◌++◌,
+  length,
+  get_or,
+  drop,
+  Option,
+  Some,
+  None,
+  refl,
+  ap,
+  ap₂,
+  subst,
+  sym,
+  ◌∙◌,
+  inl,
+  inr,
+  arith,
+  length-append,
+}
 use Rattle.clog_words.specs.Given.{
   Setting,
   HasNoEquals,

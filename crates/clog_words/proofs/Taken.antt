@@ -1,5 +1,28 @@
 -- Words that give a command's options pass the walk of `clap`.
-use Rattle.std.proofs.Common.{◌≡◌, ◌<◌, ℕ, List, [], ◌∷◌, ◌++◌, false, is_some, Option, Some, None, option_map, length, refl, ap, subst, sym, ◌∙◌, inl, inr, arith}
+use Rattle.std.proofs.Common.{
+  ◌≡◌,
+  ◌<◌,
+  ℕ,
+  List,
+  [],
+  ◌∷◌,
+  ◌++◌,
+  false,
+  is_some,
+  Option,
+  Some,
+  None,
+  option_map,
+  length,
+  refl,
+  ap,
+  subst,
+  sym,
+  ◌∙◌,
+  inl,
+  inr,
+  arith,
+}
 use Rattle.std.proofs.lemmas.Slice.Eq.{bytes_eq-Decides}
 use Rattle.std.specs.List.{AllByRecursion}
 use Rattle.clap.specs.Faults.{turn_fault, use_fault, walk_fault}
@@ -14,7 +37,14 @@ use Rattle.clap.specs.Walk.{
   has_row,
   walked,
 }
-use Rattle.clog_words.specs.Given.{BeginsWithDash, GivesAll, HasNoEquals, IsWritten, Setting, dashed}
+use Rattle.clog_words.specs.Given.{
+  BeginsWithDash,
+  GivesAll,
+  HasNoEquals,
+  IsWritten,
+  Setting,
+  dashed,
+}
 use Rattle.clog_words.specs.Options.{Known, known_as, mark_named, value_named}
 use Rattle.clog_words.proofs.LongWords.{long_is_other, long_word, plain_word}
 use Rattle.clog_words.proofs.Turns as turns
@@ -23,7 +53,6 @@ use Rattle.clog_words.proofs.Turns.{
   built_rule,
   by_id,
   by_long,
-  held_at,
   idle_at,
   none_of_both,
   waits_at,
@@ -220,7 +249,8 @@ module _ (command : List ℕ) (options : List Known) where
 
     pub takes_all : (settings : List Setting) (rows : List Row) (pending : Pending)
         (words : List Text) → settles command options rows pending ≡ []
-        → GivesAll settings words → IsTidy options (settled_at command options rows pending) settings
+        → GivesAll settings words → IsTidy options (settled_at command options rows pending)
+        settings
         → Passes command options (idle_at rows pending) words
     takes_all [] rows pending words fits given tidy =
         subst (Passes command options (idle_at rows pending)) (sym given)

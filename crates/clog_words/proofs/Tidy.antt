@@ -1,6 +1,32 @@
 -- Options are tidy where each is one of the command's, none is there twice, and each has a value
 -- where it should.
-use Rattle.std.proofs.Common.{◌≡◌, ◌≤◌, ◌+◌, List, [], ◌∷◌, ◌++◌, ◌||◌, ◌&&◌, Bool, true, false, nat_le, count_by, Option, Some, unwrap_or, if◌then◌else◌, refl, ap, ap₂, subst, sym, ◌∙◌, arith}
+use Rattle.std.proofs.Common.{
+  ◌≡◌,
+  ◌≤◌,
+  ◌+◌,
+  List,
+  [],
+  ◌∷◌,
+  ◌++◌,
+  ◌||◌,
+  ◌&&◌,
+  Bool,
+  true,
+  false,
+  nat_le,
+  count_by,
+  Option,
+  Some,
+  unwrap_or,
+  if◌then◌else◌,
+  refl,
+  ap,
+  ap₂,
+  subst,
+  sym,
+  ◌∙◌,
+  arith,
+}
 use Rattle.std.proofs.lemmas.Bool.{le-leb}
 use Rattle.std.proofs.lemmas.List.Folds.{list_any-append}
 use Rattle.std.proofs.lemmas.List.Sums.{sum_by-append}

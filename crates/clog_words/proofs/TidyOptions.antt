@@ -1,5 +1,26 @@
 -- Options that are tidy: each is fit for the command, and none is there twice.
-use Rattle.std.proofs.Common.{◌≡◌, List, [], ◌∷◌, ◌++◌, map, Bool, true, false, is_some, Option, Some, unwrap_or, if◌then◌else◌, refl, ap, ap₂, sym, ◌∙◌, append_assoc}
+use Rattle.std.proofs.Common.{
+  ◌≡◌,
+  List,
+  [],
+  ◌∷◌,
+  ◌++◌,
+  map,
+  Bool,
+  true,
+  false,
+  is_some,
+  Option,
+  Some,
+  unwrap_or,
+  if◌then◌else◌,
+  refl,
+  ap,
+  ap₂,
+  sym,
+  ◌∙◌,
+  append_assoc,
+}
 use Rattle.std.proofs.lemmas.Slice.Eq.{bytes_eq-Decides}
 use Rattle.std.specs.Str.{bytes_eq}
 use Rattle.clap.specs.Faults.{turn_fault, walk_fault}

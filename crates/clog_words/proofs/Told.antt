@@ -130,7 +130,8 @@ apply_kinds settings options says =
             number_kind (said (codes "segment-kib") settings) 32768 4 32768 options.segment_kib
                 says.segment_kib,
             (
-              if_said_kind (said (codes "flush-at") settings) 1 1000000 options.flush_at says.flush_at,
+              if_said_kind (said (codes "flush-at") settings) 1 1000000 options.flush_at
+                  says.flush_at,
               (
                 mark_kind (said (codes "archive") settings) options.archive says.archive,
                 (

@@ -1,11 +1,49 @@
 -- One word's turn in the walk of `clap`, for a command that has options alone.
-use Rattle.std.proofs.Common.{◌≡◌, ℕ, List, [], ◌∷◌, ◌||◌, map, Bool, true, false, Option, Some, None, option_map, codes, if◌then◌else◌, refl, ap, ap₂, sym, ◌∙◌, arith, length}
+use Rattle.std.proofs.Common.{
+  ◌≡◌,
+  ℕ,
+  List,
+  [],
+  ◌∷◌,
+  ◌||◌,
+  map,
+  Bool,
+  true,
+  false,
+  Option,
+  Some,
+  None,
+  option_map,
+  codes,
+  if◌then◌else◌,
+  refl,
+  ap,
+  ap₂,
+  sym,
+  ◌∙◌,
+  arith,
+  length,
+}
 use Rattle.std.specs.Str.{bytes_eq}
 use Rattle.clap.specs.Kinds.{Kinds, or_else}
 use Rattle.clap.specs.Faults.{settle_fault, turn_fault, use_fault}
 use Rattle.clap.specs.Lexer.{long_of, short_of}
 use Rattle.clap.specs.Simple.{Shape, built, filled, filled_from, new_rule, new_shape, with_index}
-use Rattle.clap.specs.Walk.{Held, Row, Rule, Text, Walk, arg_by_id, arg_by_index, arg_by_long, idle, option, settled, used, walked}
+use Rattle.clap.specs.Walk.{
+  Held,
+  Row,
+  Rule,
+  Text,
+  Walk,
+  arg_by_id,
+  arg_by_index,
+  arg_by_long,
+  idle,
+  option,
+  settled,
+  used,
+  walked,
+}
 use Rattle.clap.specs.declared.builder.value_parser.ValueParser.{ValueParser}
 use Rattle.clap.specs.declared.builder.value_parser.ValueParser.TheVariants as vp
 use Rattle.clap.specs.declared.error.kind.ErrorKind.TheVariants as kind

@@ -1,5 +1,25 @@
 -- One use of an option: it is refused where the option was used before, and is one more row.
-use Rattle.std.proofs.Common.{◌≡◌, List, [], ◌∷◌, ◌++◌, ◌||◌, Bool, true, false, Option, Some, None, codes, if◌then◌else◌, refl, ap, sym, ◌∙◌, append-nil}
+use Rattle.std.proofs.Common.{
+  ◌≡◌,
+  List,
+  [],
+  ◌∷◌,
+  ◌++◌,
+  ◌||◌,
+  Bool,
+  true,
+  false,
+  Option,
+  Some,
+  None,
+  codes,
+  if◌then◌else◌,
+  refl,
+  ap,
+  sym,
+  ◌∙◌,
+  append-nil,
+}
 use Rattle.std.specs.Str.{bytes_eq}
 use Rattle.clap.specs.Faults.{use_fault}
 use Rattle.clap.specs.Walk.{Row, Text, at_row, has_row, more_values, used}

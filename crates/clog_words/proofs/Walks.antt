@@ -1,5 +1,29 @@
 -- What a walk of `clap` without a fault has read: the options that the words give.
-use Rattle.std.proofs.Common.{◌≡◌, ℕ, List, [], ◌∷◌, ◌++◌, fold, Bool, true, false, is_some, Option, Some, None, option_map, refl, ap, subst, sym, ◌∙◌, inl, inr, append-nil}
+use Rattle.std.proofs.Common.{
+  ◌≡◌,
+  ℕ,
+  List,
+  [],
+  ◌∷◌,
+  ◌++◌,
+  fold,
+  Bool,
+  true,
+  false,
+  is_some,
+  Option,
+  Some,
+  None,
+  option_map,
+  refl,
+  ap,
+  subst,
+  sym,
+  ◌∙◌,
+  inl,
+  inr,
+  append-nil,
+}
 use Rattle.std.proofs.lemmas.Slice.Eq.{bytes_eq-Decides}
 use Rattle.std.specs.List.{AllByRecursion}
 use Rattle.std.specs.Str.{bytes_eq}
@@ -7,7 +31,18 @@ use Rattle.clap.specs.Faults.{settle_fault, turn_fault, use_fault, walk_fault}
 use Rattle.clap.specs.Kinds.{Kinds, or_else}
 use Rattle.clap.specs.Lexer.{long_of}
 use Rattle.clap.specs.Simple.{Shape}
-use Rattle.clap.specs.Walk.{Row, Rule, Text, Walk, arg_by_id, arg_by_long, has_row, settled, used, walked}
+use Rattle.clap.specs.Walk.{
+  Row,
+  Rule,
+  Text,
+  Walk,
+  arg_by_id,
+  arg_by_long,
+  has_row,
+  settled,
+  used,
+  walked,
+}
 use Rattle.clap.specs.declared.error.kind.ErrorKind.TheVariants as kind
 use Rattle.clog_words.specs.Given.{BeginsWithDash, dashed}
 use Rattle.clog_words.specs.Options.{Known, known_as, mark_named, value_named}

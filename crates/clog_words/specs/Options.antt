@@ -101,7 +101,8 @@ abbrev pub marked : List ℕ → Bool → Option Setting
 marked name true = Some (record { name = name; value = None })
 marked name false = None
 
--- what was found tells of an option: the value of one that has it, and of a mark whether it is there
+-- what was found tells of an option: the value of one that has it, and of a mark whether it is
+-- there
 abbrev pub TellsOf : Bool → List ℕ → Option Setting → Found → Type 0
 TellsOf true name setting found = setting ≡ option_map (valued name) (first_value found name)
 TellsOf false name setting found =

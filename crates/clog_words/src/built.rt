@@ -1,5 +1,5 @@
 //! What the program does, of what words ask for: a segment's name is read into its id.
-ghost use Rattle.std.specs.Prelude.{◌≡◌, MatchOption, MatchResult};
+ghost use Rattle.std.specs.Prelude.{MatchOption, MatchResult};
 ghost use Rattle.clog_words.specs.Asks.{OnUsage};
 ghost use Rattle.clog_words.specs.Built.{AsksBuilt, IsBuilt};
 ghost use Rattle.clog_words.specs.Given.{texts};

@@ -1,5 +1,5 @@
 //! The commands, each with the options or the words that it has.
-ghost use Rattle.std.specs.Prelude.{◌≡◌, ◌∷◌, ℕ, List, codes, MatchOption, MatchResult};
+ghost use Rattle.std.specs.Prelude.{◌≡◌, ◌∷◌, ℕ, List, MatchOption, MatchResult};
 ghost use Rattle.clap.specs.Matches.{found_of};
 ghost use Rattle.clog_spec.specs.Names.{IsSegmentName};
 ghost use Rattle.clog_words.specs.declared.request.ApplyOptions.{ApplyOptions as AskedApply};
@@ -14,8 +14,6 @@ ghost use Rattle.clog_words.specs.Asks.{
   OnUsage,
   SaysApply,
   SaysReplay,
-  apply_names,
-  replay_names,
 };
 ghost use Rattle.clog_words.specs.Given.{Setting, texts};
 ghost use Rattle.clog_words.specs.Options.{

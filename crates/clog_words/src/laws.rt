@@ -1,7 +1,6 @@
 //! What holds of all lists of words.
 ghost use Rattle.std.specs.Prelude.{◌≡◌, ℕ, List, [], ◌∷◌, codes, true, false, None};
-ghost use Rattle.sync_core.specs.declared.SyncCore.{SyncCore};
-ghost use Rattle.sync_core.specs.declared.SyncCore.TheVariants.{Batch, Periodic};
+ghost use Rattle.sync_core.specs.declared.SyncCore.TheVariants.{Periodic};
 ghost use Rattle.clog_words.specs.declared.request.Request.{Request};
 ghost use Rattle.clog_words.specs.declared.request.Request.TheVariants.{Apply, Replay};
 ghost use Rattle.clog_words.specs.Asks.{Asks};

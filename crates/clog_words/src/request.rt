@@ -58,7 +58,7 @@ pub struct ReplayOptions {
 /// Why words were not read.
 #[derive(Clone, Copy, Debug, PartialEq, Eq, Error)]
 pub enum WordsFault {
-    /// They ask for nothing that there is.
+    /// They ask for no command that there is, or not in its form.
     #[error("usage")]
     Usage,
     /// Memory was refused.

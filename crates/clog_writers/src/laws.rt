@@ -34,7 +34,8 @@ pub fn one_writer_logs_the_first_lines()
         → RestoresLines (bytes_at opened) mutations least image }
 {}
 
-/// And where segments say the first lines, these are a history of one writer, which says just those.
+/// And where segments say the first lines, these are a history of one writer, which says just
+/// those.
 pub fn first_lines_are_those_of_one_writer()
     ensures { (mutations : List Mutation) (log : List Write) → (said : SaysFirst log mutations)
         → (history : List LoggedLine) × SaysShares 1 mutations log history

@@ -113,13 +113,14 @@ fn disks_read_now<D: Disk>(_store: &Store<D>)
 /// Whatever is answered, the appends among the disk's further changes have brought segments, and no
 /// other names have come than those of these, their archive names and table files. Without
 /// `flush_at` the changes are appends alone; with `drain` perhaps table files and removals behind
-/// them, once all lines are logged. With `flush_at` table files and removals stand among the appends.
-/// Each comes in its turn: a table file, which is true and holds an entry, behind the entries of its
-/// table up to its end; a removal behind all bytes of its segment and files that were put that hold
-/// it. Where the disk tells its files, the table files are there. Where all lasted before, each
-/// image of a crash since then restores what the folder restored, and lines of the plan, of each
-/// writer the first of its share; at `Ok`, and without `flush_at` once the changes go beyond
-/// appends, each image of now restores all lines. Each file that was there stands as it was.
+/// them, once all lines are logged. With `flush_at` table files and removals stand among the
+/// appends. Each comes in its turn: a table file, which is true and holds an entry, behind the
+/// entries of its table up to its end; a removal behind all bytes of its segment and files that
+/// were put that hold it. Where the disk tells its files, the table files are there. Where all
+/// lasted before, each image of a crash since then restores what the folder restored, and lines of
+/// the plan, of each writer the first of its share; at `Ok`, and without `flush_at` once the
+/// changes go beyond appends, each image of now restores all lines. Each file that was there stands
+/// as it was.
 ///
 /// `OutOfMemory`: memory was refused for the path, by a sync or a flush, or for the drain's table
 /// files;

@@ -49,7 +49,8 @@ test_from_passed ts g p = list_all-from_AllPass is_finished (take (g + 1) ts) (�
     let l = length_upto ts g p.made in
     let below : h < g + 1 = omega arith in
     ap is_finished (get_or-take (g + 1) ts h d below
-    ∙ (get_or_default ts h d (Open 0) (let m = p.made in omega arith) ∙ p.finished h (omega arith))))
+    ∙ (get_or_default ts h d (Open 0) (let m = p.made in omega arith) ∙ p.finished h
+    (omega arith))))
 
 -- the answer of the test on the counts that a slice shows
 pub test_is_passed : (ts shown : List Tally) (g : ℕ) (r : Bool) → g < length ts → shown ≡ ts

@@ -3,7 +3,7 @@
 //! A keeper writes entries of the log in sections, each up to a marker, puts table files, and drops
 //! segments whose entries table files hold. What it holds is one record, so that a path can say of
 //! it what it must show.
-ghost use Rattle.std.specs.Prelude.{◌≡◌, ◌≤◌, IfOk, OnOk, OnErr};
+ghost use Rattle.std.specs.Prelude.{◌≡◌, IfOk, OnOk, OnErr};
 ghost use Rattle.path_core.specs.Keeper.{
   Holding,
   MaySync,

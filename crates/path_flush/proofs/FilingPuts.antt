@@ -1,6 +1,25 @@
 -- What a flush knows behind a call of the keeper on the desk, and behind the put that retires a
 -- memtable with its file.
-use Rattle.std.proofs.Common.{◌≡◌, ℕ, ◌<◌, List, ◌∷◌, Option, Some, is_some, Result, Ok, Err, OnErr, OnOk, refl, sym, ap, ◌∙◌, subst}
+use Rattle.std.proofs.Common.{
+  ◌≡◌,
+  ℕ,
+  ◌<◌,
+  List,
+  ◌∷◌,
+  Option,
+  Some,
+  is_some,
+  Result,
+  Ok,
+  Err,
+  OnErr,
+  OnOk,
+  refl,
+  sym,
+  ap,
+  ◌∙◌,
+  subst,
+}
 use Rattle.atomic_table.specs.Table.{Me, rest}
 use Rattle.clog_base.specs.declared.cell.Cell.{Cell}
 use Rattle.clog_base.specs.declared.cell.CellKey.{CellKey}

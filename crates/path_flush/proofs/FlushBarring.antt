@@ -1,5 +1,24 @@
 -- What a seat with both turns knows behind steps of barriers and syncs, and behind a switch.
-use Rattle.std.proofs.Common.{◌≡◌, ⊎_elim, inl, inr, ℕ, ◌<◌, false, List, [], ◌∷◌, ◌++◌, Option, IsTrue, is_some, sym, ap, ◌∙◌, subst}
+use Rattle.std.proofs.Common.{
+  ◌≡◌,
+  ⊎_elim,
+  inl,
+  inr,
+  ℕ,
+  ◌<◌,
+  false,
+  List,
+  [],
+  ◌∷◌,
+  ◌++◌,
+  Option,
+  IsTrue,
+  is_some,
+  sym,
+  ap,
+  ◌∙◌,
+  subst,
+}
 use Rattle.std.proofs.lemmas.Option.{none-some}
 use Rattle.std.specs.Option.{option_map_or}
 use Rattle.atomic_table.specs.Table.{Me}

@@ -37,7 +37,13 @@ use Rattle.path_flush.specs.declared.switch_answer.Row.TheVariants.{
   AppendGroups,
 }
 use Rattle.path_flush.specs.declared.switch_answer.Switch.{Switch}
-use Rattle.path_flush.specs.declared.switch_answer.Switch.TheVariants.{Empty, Left, Waits, Busy, Rows}
+use Rattle.path_flush.specs.declared.switch_answer.Switch.TheVariants.{
+  Empty,
+  Left,
+  Waits,
+  Busy,
+  Rows,
+}
 use Rattle.path_flush.specs.FlushSteps.{Finalises, FlushSteps, QuietSteps}
 use Rattle.path_flush.specs.FlushTurns.{FindsMemtables}
 use Rattle.path_flush.specs.Switched.{HadTurn, IsSettled, IsSwitch, most_opened, Switches}

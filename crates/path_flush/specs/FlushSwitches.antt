@@ -14,8 +14,9 @@ use Rattle.path_flush.specs.FlushSteps.{FlushSteps, Finalises, FinalisesOnly, Re
 use Rattle.path_flush.specs.FlushTurns.{IsDrained, IsHolder}
 use Rattle.path_flush.specs.Opens.{opens}
 
--- Seat w made memtable m of table t final at a key, at or above which it wrote nothing, and no other
--- one, and opened one memtable at most. What it knows of its boxes, and of the Sync turn, is what it knew.
+-- Seat w made memtable m of table t final at a key, at or above which it wrote nothing, and no
+-- other one, and opened one memtable at most. What it knows of its boxes, and of the Sync turn, is
+-- what it knew.
 pub record MadeFinal (w t m key : ℕ) (v after : View) : Type 0 where
   pub made : FlushSteps w t v after
   pub set : Finalises w t m key made.steps

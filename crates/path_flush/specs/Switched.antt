@@ -23,7 +23,13 @@ use Rattle.path_flush.specs.declared.switch_answer.Row.TheVariants.{
   AppendGroups,
 }
 use Rattle.path_flush.specs.declared.switch_answer.Switch.{Switch}
-use Rattle.path_flush.specs.declared.switch_answer.Switch.TheVariants.{Empty, Left, Waits, Busy, Rows}
+use Rattle.path_flush.specs.declared.switch_answer.Switch.TheVariants.{
+  Empty,
+  Left,
+  Waits,
+  Busy,
+  Rows,
+}
 use Rattle.path_flush.specs.OwnWrites.{writes_of}
 use Rattle.path_flush.specs.FlushSteps.{FlushSteps, Finalises, RetiresEmpty, SwitchesNone}
 use Rattle.path_flush.specs.Opens.{opens}

@@ -1,7 +1,7 @@
 //! What was written to a memtable is gathered behind its barrier, from the boxes of all seats, and
 //! merged into the cells of a table file. For that its table's Flush turn is enough.
 ghost use Rattle.std.specs.List.{list_any};
-ghost use Rattle.std.specs.Prelude.{◌≡◌, ℕ, suc, ◌<◌, ◌||◌, [], Some, true, nat_lt, IfSome};
+ghost use Rattle.std.specs.Prelude.{◌≡◌, suc, ◌<◌, ◌||◌, [], Some, true, nat_lt, IfSome};
 ghost use Rattle.clog_cells.specs.Batches.{WerePut};
 ghost use Rattle.path_core.specs.declared.note.EntryNote.{EntryNote};
 ghost use Rattle.path_rule.specs.declared.view.FlushRead.{FlushRead};

@@ -1,6 +1,7 @@
-//! A memtable is read whole behind its passed barrier, and retired: with a table file where something
-//! was seen. Both turns are held, except while what was written is gathered: for that the table's
-//! turn is enough, so commits that wait for a sync, and flushes of other tables, go on meanwhile.
+//! A memtable is read whole behind its passed barrier, and retired: with a table file where
+//! something was seen. Both turns are held, except while what was written is gathered: for that the
+//! table's turn is enough, so commits that wait for a sync, and flushes of other tables, go on
+//! meanwhile.
 ghost use Rattle.std.specs.Prelude.{◌≡◌, ◌≢◌, ◌<◌, ℕ, true, None, Some};
 ghost use Rattle.path_core.specs.declared.seat.Switching.TheVariants.{Settled};
 ghost use Rattle.path_core.specs.Parts.{stage_of};

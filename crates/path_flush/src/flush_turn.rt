@@ -1,6 +1,6 @@
 //! The turns that a flush holds: its table's Flush turn, taken by one try, and beside it the Sync
 //! turn, for which it waits. With the first it finds which memtables the table has.
-ghost use Rattle.std.specs.Prelude.{◌≡◌, ℕ, ◌<◌, ◌≤◌, [], None, Some, IfOk, MatchResult};
+ghost use Rattle.std.specs.Prelude.{◌≡◌, ℕ, ◌<◌, ◌≤◌, [], Some, IfOk, MatchResult};
 ghost use Rattle.path_core.specs.declared.event.Event.TheVariants.{Look};
 ghost use Rattle.path_core.specs.declared.event.Place.TheVariants.{TurnWord};
 ghost use Rattle.path_core.specs.declared.event.Turn.TheVariants.{Flush};

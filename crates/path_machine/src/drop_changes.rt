@@ -18,10 +18,9 @@ ghost use Rattle.std.specs.List.{list_any, list_all, range_with_len};
 ghost use Rattle.path_core.specs.declared.event.Event.{Event};
 ghost use Rattle.path_core.specs.declared.event.Turn.{Turn};
 ghost use Rattle.path_core.specs.declared.state.Claim.{Claim};
-ghost use Rattle.path_core.specs.Keys.{ordinal_of};
 ghost use Rattle.path_core.specs.Parts.{seat_of, is_entry_in};
 ghost use Rattle.path_core.specs.Droppable.{is_logged, is_table_filed, is_droppable};
-ghost use Rattle.path_core.specs.Next.{next_of, newly_dropped, has_filed};
+ghost use Rattle.path_core.specs.Next.{newly_dropped, has_filed};
 ghost use Rattle.path_machine.specs.Steps.{Names, Makes, Drops};
 
 use crate::keys::ordinal;

@@ -1,6 +1,6 @@
 //! The steps that retire memtables and let segments go.
-ghost use Rattle.std.specs.Prelude.{◌≡◌, ◌↔◌, ◌≤◌, ◌<◌, length, set, None, IfOk, OnErr, IsTrue};
-ghost use Rattle.std.specs.List.{list_any, filter};
+ghost use Rattle.std.specs.Prelude.{◌≡◌, ◌<◌, length, set, None};
+ghost use Rattle.std.specs.List.{list_any};
 ghost use Rattle.path_core.specs.declared.event.Event.{Event};
 ghost use Rattle.path_core.specs.declared.state.PathState.{PathState};
 ghost use Rattle.path_core.specs.Parts.{
@@ -14,7 +14,6 @@ ghost use Rattle.path_core.specs.Parts.{
 };
 ghost use Rattle.path_core.specs.declared.event.Reading.{Reading};
 ghost use Rattle.path_core.specs.SeatAfter.{seat_after};
-ghost use Rattle.path_core.specs.Next.{next_of};
 ghost use Rattle.path_machine.specs.Steps.{Names, Makes};
 
 use crate::table_steps::oldest_live_found;

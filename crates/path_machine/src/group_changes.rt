@@ -1,5 +1,5 @@
 //! The steps on groups: registering, closing, and issuing a barrier.
-ghost use Rattle.std.specs.Prelude.{◌≡◌, ◌<◌, ◌++◌, ◌∷◌, [], length, set};
+ghost use Rattle.std.specs.Prelude.{◌≡◌, ◌<◌, length, set};
 ghost use Rattle.op_core.specs.Tallies.{tally_at, one_less, expired};
 ghost use Rattle.path_core.specs.declared.event.Event.{Event};
 ghost use Rattle.path_core.specs.Parts.{groups_of};

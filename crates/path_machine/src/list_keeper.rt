@@ -1,16 +1,6 @@
 //! A keeper over lists in memory, for trying what stands on a keeper. It has no disk: nothing
 //! outlives it, and it never stops.
-ghost use Rattle.std.specs.Prelude.{
-  ◌≡◌,
-  ◌≤◌,
-  ◌<◌,
-  ℕ,
-  length,
-  get_or,
-  vec_len,
-  IfOk,
-  OnErr,
-};
+ghost use Rattle.std.specs.Prelude.{◌≤◌, ◌<◌, ℕ, length, get_or, vec_len, IfOk, OnErr};
 ghost use Rattle.std.specs.List.Sorted.{IsPermutation, IsNonDecreasingBy};
 ghost use Rattle.path_core.specs.declared.note.EntryNote.{EntryNote};
 ghost use Rattle.path_core.specs.Keeper.{IsParted, IsFresh};

@@ -1,5 +1,5 @@
 //! Makes a step that is allowed: each kind by the function that knows what it leaves.
-ghost use Rattle.std.specs.Prelude.{◌≡◌, ◌≤◌, ◌<◌, length};
+ghost use Rattle.std.specs.Prelude.{◌≡◌, ◌<◌};
 ghost use Rattle.path_core.specs.declared.event.Event.{Event};
 ghost use Rattle.path_core.specs.Allowed.{IsAllowed};
 ghost use Rattle.path_core.specs.Next.{next_of};

@@ -1,17 +1,5 @@
 //! When steps on groups are allowed.
-ghost use Rattle.std.specs.Prelude.{
-  ◌≡◌,
-  ◌↔◌,
-  ◌≤◌,
-  ◌<◌,
-  ◌+◌,
-  ℕ,
-  suc,
-  length,
-  Some,
-  IsTrue,
-  IsSome,
-};
+ghost use Rattle.std.specs.Prelude.{◌≡◌, ◌↔◌, ◌≤◌, ◌<◌, suc, length, Some, IsTrue};
 ghost use Rattle.std.specs.List.{list_any};
 ghost use Rattle.op_core.specs.declared.count.Tally.{Tally};
 ghost use Rattle.op_core.specs.Tallies.{IsOpen};
@@ -35,7 +23,6 @@ ghost use Rattle.path_core.specs.Allowed.{
   is_unbarred,
   is_unbarred_marker,
 };
-ghost use Rattle.path_machine.specs.Steps.{IsWithin};
 
 use crate::move_changes::{is_unbarred, is_unbarred_marker};
 use crate::reading::groups;

@@ -1,5 +1,5 @@
 //! The write path as a value: a state that allowed steps alone change.
-ghost use Rattle.std.specs.Prelude.{◌≡◌, ◌≤◌, ◌<◌, length, IfOk, replicate};
+ghost use Rattle.std.specs.Prelude.{◌≡◌, ◌<◌, IfOk, replicate};
 ghost use Rattle.path_core.specs.declared.state.PathState.{PathState};
 ghost use Rattle.path_core.specs.Parts.{fresh_table, fresh_seat};
 ghost use Rattle.path_core.specs.Runs.{opening, first_group};
@@ -111,7 +111,8 @@ fn fresh_seats(alloc: Global, count: u8) -> Result<Vec<Seat>, OutOfMemory>
 }
 
 impl Path {
-    /// A path that has not begun. `base` is the id of its first segment.
+    /// A path that has not begun. `base` is the id of its first segment; no bound is asked of it.
+    /// `OutOfMemory`: memory was refused.
     pub fn new(alloc: Global, sizes: Sizes, base: u64) -> Result<Path, OutOfMemory>
         ensures { IfOk result (λ p. p ≡ opening sizes.tables sizes.writers sizes.capacity
             sizes.ordinals base) }

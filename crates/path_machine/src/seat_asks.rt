@@ -1,5 +1,5 @@
 //! What a seat is asked before its step.
-ghost use Rattle.std.specs.Prelude.{◌≡◌, ◌↔◌, ◌≤◌, ◌<◌, ◌^◌, ◌⊎◌, Some, IsTrue, ℕ};
+ghost use Rattle.std.specs.Prelude.{◌≡◌, ◌↔◌, ◌≤◌, ◌<◌, ◌⊎◌, Some, IsTrue, ℕ};
 ghost use Rattle.std.specs.List.{Contains};
 ghost use Rattle.path_core.specs.Parts.{
   group_in,

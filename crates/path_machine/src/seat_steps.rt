@@ -1,16 +1,9 @@
 //! How a seat's part changes with its own step.
-ghost use Rattle.std.specs.Prelude.{◌≡◌, ◌<◌, ◌||◌, map, Some, None};
+ghost use Rattle.std.specs.Prelude.{◌≡◌, ◌<◌, map, Some, None};
 ghost use Rattle.path_core.specs.declared.seat.SyncTurn.{SyncTurn};
 ghost use Rattle.path_core.specs.declared.seat.SeatTable.{SeatTable};
 ghost use Rattle.path_core.specs.Parts.{touches};
-ghost use Rattle.path_core.specs.SeatParts.{
-  in_sync,
-  at_table,
-  in_flush,
-  log_found,
-  deposited_end,
-  has_note_of,
-};
+ghost use Rattle.path_core.specs.SeatParts.{in_sync, log_found, deposited_end, has_note_of};
 ghost use Rattle.path_core.specs.SeatAfter.{left_table, looked, registered};
 ghost use Rattle.path_machine.specs.SeatSteps.{NamesTable};
 

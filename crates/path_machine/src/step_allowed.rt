@@ -1,5 +1,5 @@
 //! Whether a step is allowed.
-ghost use Rattle.std.specs.Prelude.{◌≡◌, ◌↔◌, ◌≤◌, ◌<◌, length, IsTrue};
+ghost use Rattle.std.specs.Prelude.{◌≡◌, ◌↔◌, IsTrue};
 ghost use Rattle.path_core.specs.Parts.{seat_of};
 ghost use Rattle.path_core.specs.Words.{by_of};
 ghost use Rattle.path_core.specs.Allowed.{IsThere, Row, IsAllowed};

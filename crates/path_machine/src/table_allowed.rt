@@ -1,5 +1,5 @@
 //! When steps on memtables are allowed.
-ghost use Rattle.std.specs.Prelude.{◌≡◌, ◌≢◌, ◌↔◌, ◌⊎◌, ◌≤◌, ◌<◌, ◌+◌, suc, length, IsTrue};
+ghost use Rattle.std.specs.Prelude.{◌≡◌, ◌≢◌, ◌↔◌, ◌⊎◌, ◌≤◌, ◌<◌, suc, length, IsTrue};
 ghost use Rattle.path_core.specs.declared.event.Turn.{Turn};
 ghost use Rattle.path_core.specs.Parts.{table_of, memtable_of, HoldsTurn};
 ghost use Rattle.path_core.specs.Allowed.{RaisesAsWriter, RaisesAsHolder};

@@ -4,7 +4,7 @@ ghost use Rattle.path_core.specs.declared.event.Event.{Event};
 ghost use Rattle.path_core.specs.Parts.{last_kept};
 ghost use Rattle.path_core.specs.SeatAfter.{new_sync};
 ghost use Rattle.path_core.specs.Next.{next_of};
-ghost use Rattle.path_machine.specs.Steps.{Names, Makes};
+ghost use Rattle.path_machine.specs.Steps.{Names};
 
 use crate::seat_steps::find_stopped;
 use clog_base::Table;

@@ -118,10 +118,10 @@ pub record AreGone (v : View) (key : ℕ) (ordinals : List ℕ) : Type 0 where
   pub first : (o p : ℕ) → o < ordinal_of key → MayGo v.hands.lasting o
       → ¬ Contains v.hands.lasting.dropped o → Contains ordinals p → o < p → Contains ordinals o
 
--- Which archive names came, where these segments are dropped since, and these have their names: none
--- where the keeper gives none. Where it gives them, each segment that was dropped since has its own.
--- Each is of a segment that may go now, and was not dropped before. It was dropped since, but for
--- one, whose removal was refused.
+-- Which archive names came, where these segments are dropped since, and these have their names:
+-- none where the keeper gives none. Where it gives them, each segment that was dropped since has
+-- its own. Each is of a segment that may go now, and was not dropped before. It was dropped since,
+-- but for one, whose removal was refused.
 pub record AreArchived (v : View) (dropped archived : List ℕ) : Type 0 where
   pub names : List ℕ
   pub behind : archived ≡ v.hands.lasting.filed.archived ++ names

@@ -10,12 +10,10 @@ ghost use Rattle.std.specs.Prelude.{
   ◌<◌,
   ◌≤◌,
   ℕ,
-  Bool,
   true,
   List,
   [],
   length,
-  Option,
   Some,
   None,
   IfOk,
@@ -37,7 +35,7 @@ ghost use Rattle.path_rule.specs.declared.lasting.Lasting.{Lasting};
 ghost use Rattle.path_rule.specs.declared.lasting.PutTable.{PutTable};
 ghost use Rattle.path_rule.specs.declared.view.FlushRead.{FlushRead};
 ghost use Rattle.path_rule.specs.Calls.{Holds, IsSyncedTo};
-ghost use Rattle.path_rule.specs.Filing.{MayPut, more_filed, upper_of};
+ghost use Rattle.path_rule.specs.Filing.{MayPut, upper_of};
 ghost use Rattle.path_rule.specs.FilingTold.{
   AreSeen,
   CarriesDropped,

@@ -99,8 +99,8 @@ impl<K: Keeper, A: Allocator> PathTable<K, A> {
             .load::<LookAt<K>>(&mut member.seat, oldest_word(order))
     }
 
-    /// The count of the oldest group, as its word is found: with the mark of an expired group in its
-    /// highest bit.
+    /// The count of the oldest group, as its word is found: with the mark of an expired group in
+    /// its highest bit.
     pub fn seek_count(&self, member: &mut Member<K>, order: Order, group: u64) -> u64
         requires table { IsOf self.now.table.shared.table_id self.now.size member.old }
         requires turn { Holds Rest (view_of member.old) × TurnOld order (part_of member.old) group

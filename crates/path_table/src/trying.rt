@@ -6,7 +6,7 @@ ghost use Rattle.path_core.specs.declared.event.Event.TheVariants.{Close};
 ghost use Rattle.path_core.specs.declared.event.Place.TheVariants.{Count};
 ghost use Rattle.path_core.specs.Parts.{HoldsNoTurn, IsIdle};
 ghost use Rattle.path_rule.specs.Calls.{Started, Refused, acts, FoundSince};
-ghost use Rattle.path_table.specs.Members.{view_of, part_of, IsOf, IsSame, Stepped};
+ghost use Rattle.path_table.specs.Members.{view_of, IsOf, IsSame, Stepped};
 
 use crate::table::{Member, PathTable};
 use crate::words::EXPIRED;

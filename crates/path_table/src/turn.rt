@@ -1,5 +1,5 @@
 //! The Sync turn: taken with the desk, given back with it, and what its holder finds of the log.
-ghost use Rattle.std.specs.Prelude.{◌≡◌, ◌≢◌, ◌<◌, false, List, Some, None, is_some, IsTrue};
+ghost use Rattle.std.specs.Prelude.{◌≡◌, ◌≢◌, ◌<◌, List, Some, None, is_some, IsTrue};
 ghost use Rattle.path_core.specs.declared.event.Cursor.TheVariants.{Stopped};
 ghost use Rattle.path_core.specs.declared.event.Event.TheVariants.{Look, TakeTurn, GiveTurn};
 ghost use Rattle.path_core.specs.declared.event.Place.TheVariants.{TurnWord, CursorWord};

@@ -1,5 +1,6 @@
-//! A write of table 0 that has begun goes on behind a flush's barrier, by single tries: it is logged
-//! above the bound of the memtable that is flushed, which refuses it, and the next one takes it.
+//! A write of table 0 that has begun goes on behind a flush's barrier, by single tries: it is
+//! logged above the bound of the memtable that is flushed, which refuses it, and the next one takes
+//! it.
 ghost use Rattle.std.specs.Prelude.{◌≡◌, ◌≢◌, ℕ, ◌+◌, ◌<◌, Some, IfSome, IsTrue};
 ghost use Rattle.clog_mutation.specs.declared.mutation.Mutation.{Mutation};
 ghost use Rattle.path_core.specs.Parts.{seat_table, touches};

@@ -1,5 +1,5 @@
 //! A write of two tables, call by call.
-ghost use Rattle.std.specs.Prelude.{◌≡◌, ℕ, suc, ◌<◌, IfSome};
+ghost use Rattle.std.specs.Prelude.{◌≡◌, suc, ◌<◌, IfSome};
 ghost use Rattle.clog_mutation.specs.declared.mutation.Mutation.{Mutation};
 ghost use Rattle.path_core.specs.Parts.{touches};
 ghost use Rattle.path_table.specs.Members.{IsOf};

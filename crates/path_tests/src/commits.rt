@@ -1,6 +1,6 @@
 //! Commits by worked values: of one seat ranges, receipts, markers between them and a log that is
 //! spent, and of two seats what a gate is told.
-ghost use Rattle.std.specs.Prelude.{◌≡◌, ℕ, IfOk};
+ghost use Rattle.std.specs.Prelude.{◌≡◌, IfOk};
 ghost use Rattle.clog_mutation.specs.declared.mutation.Mutation.{Mutation};
 ghost use Rattle.path_table.specs.Members.{IsOf};
 ghost use Rattle.write_path.specs.Writes.{IsPrepared};

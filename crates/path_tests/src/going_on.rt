@@ -1,5 +1,6 @@
-//! A flush and a write that began before the flush's barrier, in two threads: the write goes on above
-//! the flush's bound, the flush waits until it has ended, and only the next flush's file has it.
+//! A flush and a write that began before the flush's barrier, in two threads: the write goes on
+//! above the flush's bound, the flush waits until it has ended, and only the next flush's file has
+//! it.
 ghost use Rattle.std.specs.Prelude.{◌≡◌, ◌<◌, true, IfOk};
 ghost use Rattle.clog_mutation.specs.declared.mutation.Mutation.{Mutation};
 ghost use Rattle.path_table.specs.Members.{IsOf};

@@ -1,7 +1,6 @@
 //! A keeper that refuses a sync for want of memory: all is pending still, and the next sync goes up
 //! to the same marker.
 ghost use Rattle.std.specs.Prelude.{◌≡◌, IfOk};
-ghost use Rattle.path_core.specs.Keeper.{IsFresh};
 ghost use Rattle.path_table.specs.Members.{IsOf};
 
 use crate::commits::{DELETION, done, durable, place, prepared, receipt};

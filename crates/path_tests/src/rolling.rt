@@ -1,5 +1,5 @@
 //! Claims that roll over a segment's end, by worked values, in segments of 4096 bytes.
-ghost use Rattle.std.specs.Prelude.{◌≡◌, ℕ, IfOk};
+ghost use Rattle.std.specs.Prelude.{◌≡◌, IfOk};
 ghost use Rattle.clog_mutation.specs.declared.mutation.Mutation.{Mutation};
 ghost use Rattle.write_path.specs.Writes.{IsPrepared};
 

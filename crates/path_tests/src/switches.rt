@@ -1,5 +1,5 @@
-//! Switches of a table's memtable: where nothing was written to it, behind a commit, behind one that
-//! was left, and while another seat has the table's turn.
+//! Switches of a table's memtable: where nothing was written to it, behind a commit, behind one
+//! that was left, and while another seat has the table's turn.
 use crate::commits::{DELETION, logged, one_seat, place, place_of, prepared, receipt};
 use crate::turns::two_seats;
 use clog_base::{Position, Sizes, Table};

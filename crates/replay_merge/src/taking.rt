@@ -1,5 +1,5 @@
 //! A worker decodes its share of the segments' entries, and merges their mutations.
-ghost use Rattle.std.specs.Prelude.{◌≡◌, ◌+◌, ◌^◌, ◌<◌, OnOk, IfOk, [], ◌∷◌, length, map, All};
+ghost use Rattle.std.specs.Prelude.{◌+◌, ◌^◌, ◌<◌, OnOk, IfOk, [], ◌∷◌, length, map, All};
 ghost use Rattle.std.specs.List.{flat_map};
 ghost use Rattle.clog_scan.specs.Laws.{IsRange};
 ghost use Rattle.clog_folder.specs.Folder.{payloads_of, placed};

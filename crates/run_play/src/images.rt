@@ -1,7 +1,7 @@
 //! What runs make of what a crash might have left: of each moment of the last run over a folder in
 //! memory a sample of its images is recovered by a run that takes nothing. What that leaves is told
-//! by another, so the recovery itself is read back; each answer is told once, or how many cells each
-//! moment's answers have at least.
+//! by another, so the recovery itself is read back; each answer is told once, or how many cells
+//! each moment's answers have at least.
 use crate::outcome::put_printed;
 use crate::play::{clock_of, words_of};
 use anyhow::Result;
@@ -113,9 +113,9 @@ fn least_cells<T: Threads + Wait + Sync>(
     Ok(least)
 }
 
-/// Puts how many cells come at least of the images of each moment from one on, in order, each number
-/// once where moments behind one another have the same: what lasts at a moment lasts at later ones,
-/// so they rise.
+/// Puts how many cells come at least of the images of each moment from one on, in order, each
+/// number once where moments behind one another have the same: what lasts at a moment lasts at
+/// later ones, so they rise.
 pub fn put_least<T: Threads + Wait + Sync>(
     rt: &T,
     alloc: Global,

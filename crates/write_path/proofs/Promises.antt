@@ -161,7 +161,8 @@ module _ {K : Type 0} (size : PathSize) (seats : List (PathSeat K)) (end : ℕ) 
       (found_before (CursorWord Synced) D.key D.since.newer D.after.trail at_answer) in
       let synced = has_key D.key found in
       let reaches = subst (λ k. k ≤ behind_key size.capacity D.key) D.upto_is
-      (subst (λ (z : PathSize). D.syncs.end ≤ behind_key z.capacity D.key) D.of_path D.syncs.reaches) in
+      (subst (λ (z : PathSize). D.syncs.end ≤ behind_key z.capacity D.key) D.of_path
+      D.syncs.reaches) in
       subst (λ (l : List EntryNote). Contains l n) (sym O.logged)
       (kept_in (is_at_most h.synced) O.core.notes n among
       (⊎_elim (λ (front : n.end.0 ≤ D.key). le-leb n.end.0 h.synced (omega (arith, front, synced)))

@@ -31,7 +31,8 @@ use Rattle.path_flush.specs.Grown.{HasGrown}
 use Rattle.write_path.proofs.Growing.{no_shorter}
 
 -- what was found behind more steps was found behind fewer
-pub found_since : (a b : ℕ) → a ≤ b → (at : Place) (n : ℕ) (ts : List OwnStep) → FoundSince b at n ts
+pub found_since : (a b : ℕ) → a ≤ b → (at : Place) (n : ℕ) (ts : List OwnStep) → FoundSince b at n
+    ts
     → FoundSince a at n ts
 found_since a b le at n [] F = F
 found_since a b le at n (t ∷ ts) F = ⊎_elim

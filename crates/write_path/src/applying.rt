@@ -1,6 +1,5 @@
 //! A write that a memtable has accepted puts its updates there.
-ghost use Rattle.std.specs.Prelude.{◌≡◌, ℕ, ◌<◌, ◌∷◌, IsTrue, Some};
-ghost use Rattle.path_core.specs.declared.state.Placed.{Placed};
+ghost use Rattle.std.specs.Prelude.{◌≡◌, ◌<◌, ◌∷◌, IsTrue, Some};
 ghost use Rattle.path_core.specs.Parts.{seat_table, touches};
 ghost use Rattle.path_table.specs.Members.{part_of, hands_of, IsOf};
 ghost use Rattle.write_path.specs.Applies.{HoldsUpdates, IsUnapplied};

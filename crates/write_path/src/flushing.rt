@@ -15,9 +15,9 @@ use std::alloc::{Allocator, Global};
 use std::sync::Wait;
 
 impl<K: Keeper, A: Allocator> WritePath<K, A> {
-    /// Switches a table's memtable (`ColumnFamilyStore.Flush`, before it writes): what was live until
-    /// then takes no write that begins later. What it answers, and what is so then, is told at
-    /// `switch_memtable` of path_flush. It takes no memory. No clause says that it returns.
+    /// Switches a table's memtable (`ColumnFamilyStore.Flush`, before it writes): what was live
+    /// until then takes no write that begins later. What it answers, and what is so then, is told
+    /// at `switch_memtable` of path_flush. It takes no memory. No clause says that it returns.
     pub fn switch<R: Wait>(
         &self,
         rt: &R,

@@ -5,7 +5,7 @@
 //! barrier, gathers all boxes behind it, and has the keeper make lasting what is pending; then the
 //! seat is idle again. Where the keeper refused the last sync for memory and no entry came since,
 //! the same marker serves.
-ghost use Rattle.std.specs.Prelude.{◌≡◌, ℕ};
+ghost use Rattle.std.specs.Prelude.{ℕ};
 ghost use Rattle.path_core.specs.declared.event.Cursor.TheVariants.{Synced};
 ghost use Rattle.path_core.specs.declared.event.Event.TheVariants.{Look};
 ghost use Rattle.path_core.specs.declared.event.Place.TheVariants.{CursorWord, Log};
@@ -27,9 +27,9 @@ use std::sync::Wait;
 use std::thread::yield_now;
 
 impl<K: Keeper, A: Allocator> WritePath<K, A> {
-    // One round of a sync, where the Sync turn is found free; the turn is given back. `Done` reaches
-    // each log key that the seat had found. `None` where another seat has the turn, or left the last
-    // marker without a barrier.
+    // One round of a sync, where the Sync turn is found free; the turn is given back. `Done`
+    // reaches each log key that the seat had found. `None` where another seat has the turn, or left
+    // the last marker without a barrier.
     fn try_sync<R: Wait>(
         &self,
         rt: &R,
@@ -116,10 +116,10 @@ impl<K: Keeper, A: Allocator> WritePath<K, A> {
     /// another seat's sync or, where the Sync turn is found free, by a round of its own. `Done`
     /// carries the synced key, at or below which each write of the seat's list ends; it reaches the
     /// log's end as it was found in this call, so other seats' entries up to there last too
-    /// (`what_close_keeps`). `Stopped` has the keeper's count of faults at its opening and the count
-    /// that the log tells; after `OutOfMemory` and `Rows` all is pending still. What is answered was
-    /// found, or put, at a step of this call. `Rows` comes where the log was found running and the
-    /// last group current, and a marker is wanted. No clause says that it returns.
+    /// (`what_close_keeps`). `Stopped` has the keeper's count of faults at its opening and the
+    /// count that the log tells; after `OutOfMemory` and `Rows` all is pending still. What is
+    /// answered was found, or put, at a step of this call. `Rows` comes where the log was found
+    /// running and the last group current, and a marker is wanted. No clause says that it returns.
     pub fn sync<R: Wait>(
         &self,
         rt: &R,

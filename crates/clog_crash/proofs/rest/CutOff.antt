@@ -37,14 +37,7 @@ use Rattle.clog_spec.specs.Segment.{header_bytes, marker_bytes, entry_bytes}
 use Rattle.clog_spec.proofs.Bytes.{front-IsBytes}
 use Rattle.clog_entry.specs.Soft.{PassesAsHeader}
 use Rattle.clog_entry.specs.Spelled.{IsHeaderAt, IsMarkerAt, IsEntryAt}
-use Rattle.clog_scan.specs.Cut.{
-  Section,
-  front_bytes,
-  sections_bytes,
-  last_until,
-  IsSection,
-  AreSections,
-}
+use Rattle.clog_scan.specs.Cut.{Section, front_bytes, sections_bytes, last_until, AreSections}
 use Rattle.clog_scan.specs.Laws.{Reaches}
 use Rattle.clog_scan.proofs.Appended.{section_longer}
 use Rattle.clog_scan.proofs.Sections.{items_of}

@@ -43,7 +43,8 @@ use path_core::EntryNote;
 
 // The union with a file's interval too, where the file is of the table.
 fn add_file(cleans: &mut Cleans, file: Published, table: Table) -> Result<(), OutOfMemory>
-    ensures { OnOk result ((at : At) → Holds cleans.new.intervals at ↔ (Holds cleans.old.intervals at
+    ensures { OnOk result ((at : At) → Holds cleans.new.intervals at
+        ↔ (Holds cleans.old.intervals at
         ⊎ IsOfFile table.0 file.table.0 file.lower.0 file.upper.0 at)) }
 {
     if file.table.0 != table.0 || file.lower.0 >= file.upper.0 {

@@ -1,5 +1,5 @@
-//! The greatest sequences of table files are read off the disk's names, once: that leaves the log of
-//! sections as it is. From then on they are kept.
+//! The greatest sequences of table files are read off the disk's names, once: that leaves the log
+//! of sections as it is. From then on they are kept.
 ghost use Rattle.std.specs.Prelude.{◌≡◌, IfOk, true};
 ghost use Rattle.clog_disk.specs.Images.{IsLater};
 ghost use Rattle.clog_segments.specs.Life.{Lives, LivesOn};

@@ -252,9 +252,9 @@ impl<D: Disk> Store<D> {
     /// at the opening and now. `OutOfMemory`: memory was refused; that for the numbers of segments
     /// is taken before the disk is called. The call may be made again.
     ///
-    /// Unless the disk has failed, the log stands where it takes what may be written next, if it did
-    /// so before, but for one case: the call was refused and the segment at hand was due. That may
-    /// stay then, and a sync of further notes in it is refused: so make the call again first.
+    /// Unless the disk has failed, the log stands where it takes what may be written next, if it
+    /// did so before, but for one case: the call was refused and the segment at hand was due. That
+    /// may stay then, and a sync of further notes in it is refused: so make the call again first.
     pub fn drop_due(&mut self, closed: u32) -> Result<u32, KeeperFault>
         ensures drops { IfOk result (Drops
             (holding_of D.files D.changes D.moment D.faults D.row.coded.code self.old)

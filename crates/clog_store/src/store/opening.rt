@@ -55,10 +55,10 @@ impl<D: Disk> Store<D> {
         }
     }
 
-    /// Opens a folder (Cassandra's `CommitLog.recoverSegmentsOnDisk`): it is read and recovered, and
-    /// the store's log goes on at the base, which is the moment or one more than the greatest id
-    /// that the folder named. The moment is one in milliseconds. For each refusal see `recover`; the
-    /// disk comes back then.
+    /// Opens a folder (Cassandra's `CommitLog.recoverSegmentsOnDisk`): it is read and recovered,
+    /// and the store's log goes on at the base, which is the moment or one more than the greatest
+    /// id that the folder named. The moment is one in milliseconds. For each refusal see `recover`;
+    /// the disk comes back then.
     ///
     /// Whatever is answered, each file whose name is no segment's stands as it was, what came are
     /// files that recovery puts, and the folder restores the same. Where all that was there lasted

@@ -120,8 +120,9 @@ impl<D: Disk> Store<D> {
 
     /// Puts a table file for the entries of the table that end above `lower` and not above `upper`:
     /// what a keeper's `publish` does (Cassandra's `Memtable.FlushRunnable`, up to the SSTable that
-    /// stands in place). Both are keys: a segment's ordinal and an offset in it, in bytes. Where the
-    /// store's log lived, it lives on, and what lasted before is in each image of a crash meanwhile.
+    /// stands in place). Both are keys: a segment's ordinal and an offset in it, in bytes. Where
+    /// the store's log lived, it lives on, and what lasted before is in each image of a crash
+    /// meanwhile.
     ///
     /// After an error no file counts as put. `Stopped`: the disk has failed, in this call or in an
     /// earlier one, with its counts of faults at the opening and now; the file may be there.

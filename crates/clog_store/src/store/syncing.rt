@@ -21,12 +21,12 @@ impl<D: Disk> Store<D> {
     ///
     /// After an error all are pending as before. `Stopped`: the disk has failed, in this call or in
     /// an earlier one; it has the disk's counts of faults at the opening and now, and each later
-    /// call answers so and changes nothing. `OutOfMemory`: memory was refused, or a note stands in a
-    /// segment that the log has left; the sections that the disk took stay, and the call may be made
-    /// again.
+    /// call answers so and changes nothing. `OutOfMemory`: memory was refused, or a note stands in
+    /// a segment that the log has left; the sections that the disk took stay, and the call may be
+    /// made again.
     ///
-    /// Unless the disk has failed, the log stands where it takes what may be written next, if it did
-    /// so before.
+    /// Unless the disk has failed, the log stands where it takes what may be written next, if it
+    /// did so before.
     pub fn make_lasting(
         &mut self,
         pending: &mut Vec<EntryNote>,

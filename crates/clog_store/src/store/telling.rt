@@ -52,8 +52,8 @@ impl<D: Disk> Store<D> {
         self.notes.logged()
     }
 
-    /// The key at which the last table file of each table ends, by the table's number; 0 where there
-    /// is none.
+    /// The key at which the last table file of each table ends, by the table's number; 0 where
+    /// there is none.
     pub fn filed_to(&self) -> [Key; 16]
         ensures { (t : ℕ) → t < most_tables
             → (get_or result t (record { 0 = 0 })).0 ≡ upper_from t 0 self.now.files }

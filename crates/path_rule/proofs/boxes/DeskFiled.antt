@@ -137,7 +137,8 @@ module _ {K : Type 0} (holds : K → Holding) (before after : Desk K) (m : Me (S
   desk_filed f stops S uppers = let h = holds before.keeper in
       let faults = (holds after.keeper).faults in
       let still : stopped_with h.stopped faults ≡ stopped_with h.stopped h.faults =
-      ap (λ (b : Bool). stopped_with b faults) (sym (ap (λ (g : Holding). g.stopped) S)) ∙ stops in (
+      ap (λ (b : Bool). stopped_with b faults)
+      (sym (ap (λ (g : Holding). g.stopped) S)) ∙ stops in (
         Turn after,
         refl,
         (
@@ -159,7 +160,8 @@ module _ {K : Type 0} (holds : K → Holding) (before after : Desk K) (m : Me (S
       )
 
   module _ (uppers : after.uppers ≡ before.uppers) (stopped : Option ℕ)
-      (stops : stopped_with (holds after.keeper).stopped (holds after.keeper).faults ≡ stopped) where
+      (stops : stopped_with (holds after.keeper).stopped (holds after.keeper).faults
+      ≡ stopped) where
     -- it was refused
     pub desk_refused : (f : PutFile) → PublishRefused (holds before.keeper) (holds after.keeper) f
         → CarriesNoted (shows_of holds) stopped now

@@ -25,7 +25,7 @@ use Rattle.std.proofs.Common.{
   arith,
 }
 use mathlib.Core.Logic.{inl, inr}
-use mathlib.Core.Option.{some, none, some-injective, some-ne-none}
+use mathlib.Core.Option.{some, none}
 use mathlib.Core.Option as maybe
 use lib.ListN.{get_elem?}
 use Rattle.atomic_table.proofs.Lists.{at_set}

@@ -1,5 +1,21 @@
 -- The boxes of memtables under a step by which a holder of a Flush turn reads one.
-use Rattle.std.proofs.Common.{◌≡◌, ◌≢◌, ℕ, ◌<◌, ◌≤◌, List, Option, set, Some, refl, sym, ap, ◌∙◌, subst, ⊎_elim}
+use Rattle.std.proofs.Common.{
+  ◌≡◌,
+  ◌≢◌,
+  ℕ,
+  ◌<◌,
+  ◌≤◌,
+  List,
+  Option,
+  set,
+  Some,
+  refl,
+  sym,
+  ap,
+  ◌∙◌,
+  subst,
+  ⊎_elim,
+}
 use mathlib.Core.Logic.{inl, inr}
 use mathlib.Core.Option.{some, none}
 use mathlib.Core.Option as maybe

@@ -44,7 +44,7 @@ use Rattle.std.proofs.lemmas.List.Elements.{
 use Rattle.std.proofs.lemmas.List.Sums.{sum_by-append, count_by-le-length}
 use Rattle.std.specs.List.{Contains}
 use mathlib.Core.Logic.{dite, inl, inr}
-use mathlib.Core.Option.{some, none, some-injective}
+use mathlib.Core.Option.{some}
 use mathlib.Core.Option as maybe
 use native.Mathlib.Decide.{ℕ_discrete}
 use lib.ListN.{get_elem?}

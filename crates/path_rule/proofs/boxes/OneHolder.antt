@@ -67,7 +67,8 @@ module _ {K : Type 0} (shows : K → Lasting) (o : Beside) (size : PathSize) (s 
   law = core_lawful shows o size s r
 
   abbrev KnowsHands : ℕ → Seat → Hands → Type 0
-  KnowsHands z p h = HandsAre r.boxed.contents (shown o size.at_open r.kept_to r.filed r.dropped x) r.boxed.pending
+  KnowsHands z p h = HandsAre r.boxed.contents (shown o size.at_open r.kept_to r.filed r.dropped x)
+      r.boxed.pending
       r.boxed.progress
       x.append
       size.seats z p h
@@ -144,7 +145,8 @@ module _ {K : Type 0} (shows : K → Lasting) (o : Beside) (size : PathSize) (s 
   Told n ρ t = Knows x r.events r.owner r.made r.boss n ρ t.part t.trail t.returned
 
   abbrev Hand : Role → View → Type 0
-  Hand ρ t = HandsAs r.boxed.contents (shown o size.at_open r.kept_to r.filed r.dropped x) r.boxed.pending
+  Hand ρ t = HandsAs r.boxed.contents (shown o size.at_open r.kept_to r.filed r.dropped x)
+      r.boxed.pending
       r.boxed.progress x.append
       size.seats t.part t.hands ρ
 

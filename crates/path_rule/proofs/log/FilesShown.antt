@@ -177,7 +177,8 @@ module _ (x : PathState) (L : IsLawfulPath x) where
       let read = read_claim x.capacity x.ordinals x.log x.claims T c h in
       let I = (T.inside h.0 h.1 (subst (λ (d : Claim). IsTrue (is_entry d)) (sym read) entry)).1 in
       let forward = T.forward h.0 h.1 in
-      let inside = subst (λ (d : Claim). offset_of d.start + (d.end - d.start) ≤ x.capacity) read I in
+      let inside = subst (λ (d : Claim). offset_of d.start + (d.end - d.start) ≤ x.capacity) read I
+      in
       let ahead = subst (λ (d : Claim). d.start ≤ d.end) read forward in
       let few = L.sized.limits.greatest_capacity in omega arith
 

@@ -96,7 +96,8 @@ pub written_of : (files : List PutTable) (written : List WrittenFile)
     → map put_range files ≡ map file_range written → (f : PutTable) → Contains files f
     → (g : WrittenFile) × Contains written g × (file_range g ≡ put_range f)
 written_of files written same f h = map_from file_range written (put_range f)
-    (subst (λ (l : List (ℕ × (ℕ × ℕ))). Contains l (put_range f)) same (map_old put_range files f h))
+    (subst (λ (l : List (ℕ × (ℕ × ℕ))). Contains l (put_range f)) same (map_old put_range files f
+    h))
 
 -- the test of a droppable segment passes
 logged_from : (logged : List ℕ) (p : ℕ) → Contains logged p → is_logged logged p ≡ true
@@ -104,7 +105,8 @@ logged_from logged p h = any_from (λ (q : ℕ). q == p) logged p h (eq-eqb p p 
 
 all_of : {A : Type 0} (p : A → Bool) (l : List A) → ((a : A) → Contains l a → p a ≡ true)
     → list_all p l ≡ true
-all_of p l each = list_all-from_AllPass p l (λ k d inside. each (get_or l k d) (Contains-get_or l k d inside))
+all_of p l each = list_all-from_AllPass p l (λ k d inside. each (get_or l k d) (Contains-get_or l k
+    d inside))
 
 in_range : (n o : ℕ) → o < n → Contains (range_with_len 0 n) o
 in_range n o low = (
@@ -303,7 +305,8 @@ dropped_is_droppable x L size filed dropped F o h = ⊎_elim
 
 -- While nobody holds the Sync turn, it is dropped in the machine.
 pub dropped_at_home : {b : Beside} (x : PathState) (size : PathSize) (filed : Filed)
-    (dropped : List ℕ) → HasFiled b size x filed dropped → ((w : ℕ) → is_some (seat_of x w).sync ≡ false)
+    (dropped : List ℕ) → HasFiled b size x filed dropped → ((w : ℕ) → is_some (seat_of x w).sync
+    ≡ false)
     → (o : ℕ) → Contains dropped o → Contains x.dropped o
 dropped_at_home x size filed dropped F free o h = ⊎_elim (λ gone. gone)
     (λ G. absurd (false≢true (sym (free G.by) ∙ holds_filed (seat_of x G.by).sync G.filed)))

@@ -1,5 +1,5 @@
--- Where a note stands beside the synced key: it ends at or below it, or starts where the log goes on
--- behind it, or further on.
+-- Where a note stands beside the synced key: it ends at or below it, or starts where the log goes
+-- on behind it, or further on.
 use Rattle.std.proofs.Common.{
   ◌≡◌,
   ℕ,

@@ -108,8 +108,8 @@ module _ {K : Type 0} (shows : K → Lasting) (o : Beside) (size : PathSize) (sl
         tt,
         plays shows o size s r id w m.0 there mine e refl may tt tt fits rows
             ((n + 2 ^ 63) % 2 ^ 64) n None m.0.hands told refl tt m.1 keeps
-            (boxed_goes shows size.seats x.notes (shown o size.at_open r.kept_to r.filed r.dropped x) x.claims
-            x.claims
+            (boxed_goes shows size.seats x.notes (shown o size.at_open r.kept_to r.filed r.dropped
+            x) x.claims x.claims
             x.append
             (next_of x e).append s.homes s.views r.boxed id w m.0 v' there mine refl out out
             held (still_held m.0.part held)
@@ -126,13 +126,13 @@ module _ {K : Type 0} (shows : K → Lasting) (o : Beside) (size : PathSize) (sl
     where
       hands_of : (s : State (Slot K) View) (r : Ruled shows o size s)
           → get_elem? s.views id ≡ some m.0
-          → HandsAre r.boxed.contents (shown o size.at_open r.kept_to r.filed r.dropped r.core) r.boxed.pending
-          r.boxed.progress
+          → HandsAre r.boxed.contents (shown o size.at_open r.kept_to r.filed r.dropped r.core)
+          r.boxed.pending r.boxed.progress
           r.core.append
           size.seats w m.0.part m.0.hands
       hands_of s r there = subst (HandsAs r.boxed.contents
-          (shown o size.at_open r.kept_to r.filed r.dropped r.core) r.boxed.pending r.boxed.progress r.core.append
-          size.seats
+          (shown o size.at_open r.kept_to r.filed r.dropped r.core) r.boxed.pending r.boxed.progress
+          r.core.append size.seats
           m.0.part
           m.0.hands) mine (r.boxed.in_hands id m.0 there)
 
@@ -175,8 +175,8 @@ module _ {K : Type 0} (shows : K → Lasting) (o : Beside) (size : PathSize) (sl
         tt,
         plays shows o size s r id w m.0 there mine e refl may tt tt tt
             (rows_stay x e may (λ q. q) r.rows) g g None m.0.hands refl refl tt m.1 keeps
-            (boxed_goes shows size.seats x.notes (shown o size.at_open r.kept_to r.filed r.dropped x) x.claims
-            x.claims
+            (boxed_goes shows size.seats x.notes (shown o size.at_open r.kept_to r.filed r.dropped
+            x) x.claims x.claims
             x.append
             (next_of x e).append s.homes s.views r.boxed id w m.0 v' there mine refl out out
             held (still _ m.0.part.sync held)

@@ -168,8 +168,8 @@ module _ {K : Type 0} (shows : K → Lasting) (o : Beside) (size : PathSize) (sl
         plays shows o size s r id w m.0 there mine e refl may tt tt tt
             (rows_stay x e may (λ q. q) r.rows) g c None h refl
             (ap (λ k. seat_after m.0.part e (Number k) (told_by None h)) now) tt m.1 keeps
-            (boxed_goes shows size.seats x.notes (shown o size.at_open r.kept_to r.filed r.dropped x) x.claims
-            (next_of
+            (boxed_goes shows size.seats x.notes (shown o size.at_open r.kept_to r.filed r.dropped
+            x) x.claims (next_of
             x e).claims
             x.append
             (next_of x e).append s.homes s.views r.boxed id w m.0 v' there mine refl out out

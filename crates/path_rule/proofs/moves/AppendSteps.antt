@@ -102,8 +102,8 @@ module _ {K : Type 0} (shows : K → Lasting) (o : Beside) (size : PathSize) (sl
 
         by_role : (ρ : Role) → Knows r.core r.events r.owner r.made r.boss j ρ u.part u.trail
             u.returned → HandsAs r.boxed.contents
-            (shown o size.at_open r.kept_to r.filed r.dropped r.core) r.boxed.pending r.boxed.progress r.core.append
-            size.seats
+            (shown o size.at_open r.kept_to r.filed r.dropped r.core) r.boxed.pending
+            r.boxed.progress r.core.append size.seats
             u.part u.hands
             ρ
             → HoldsAs u.part.append (is_some u.part.sync) u.hands.box_taken (box_of w g) ρ → ⊥
@@ -179,8 +179,8 @@ module _ {K : Type 0} (shows : K → Lasting) (o : Beside) (size : PathSize) (sl
         home.1,
         plays shows o size s r id w m.0 there mine e refl may tt tt fits rows (k + 1)
             (k + 1) None h now refl tt m.1 (takes box home.0)
-            (boxed_take shows size.seats x.notes (shown o size.at_open r.kept_to r.filed r.dropped x) x.claims
-            x.claims
+            (boxed_take shows size.seats x.notes (shown o size.at_open r.kept_to r.filed r.dropped
+            x) x.claims x.claims
             x.append
             (next_of x e).append s.homes s.views r.boxed id w m.0 v' there mine refl refl refl
             (λ i g l _ _. (l, refl)) refl C.issue g outside C.append refl) tt
@@ -239,12 +239,12 @@ module _ {K : Type 0} (shows : K → Lasting) (o : Beside) (size : PathSize) (sl
         tt,
         plays shows o size s r id w m.0 there mine e refl may tt tt fits rows
             ((n + (2 ^ 64 - 1)) % 2 ^ 64) n None m.0.hands now refl tt m.1 gives
-            (subst (λ l. Boxed shows size.seats x.notes (shown o size.at_open r.kept_to r.filed r.dropped x) x.claims
-            (next_of x
+            (subst (λ l. Boxed shows size.seats x.notes (shown o size.at_open r.kept_to r.filed
+            r.dropped x) x.claims (next_of x
             e).append
             (put_back s.homes l) (set s.views id v')) (sym holds)
-            (boxed_give shows size.seats x.notes (shown o size.at_open r.kept_to r.filed r.dropped x) x.claims
-            x.claims
+            (boxed_give shows size.seats x.notes (shown o size.at_open r.kept_to r.filed r.dropped
+            x) x.claims x.claims
             x.append
             (next_of x e).append s.homes s.views r.boxed id w m.0 v' there mine refl refl refl
             (λ i g l _ _. (l, refl)) refl C.issue g y append C.append refl kept

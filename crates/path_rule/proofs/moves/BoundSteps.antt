@@ -124,7 +124,8 @@ module _ {K : Type 0} (shows : K → Lasting) (o : Beside) (size : PathSize) (sl
       (ap (reading_at (Bound t f)) found ∙ read_back x L (Bound t f)))
       tt
       (λ C. boxed_stay shows size.seats x.notes
-      (shown o size.at_open r.kept_to r.filed r.dropped x) x.claims x.claims x.append x.append s.homes s.views r.boxed
+      (shown o size.at_open r.kept_to r.filed r.dropped x) x.claims x.claims x.append x.append
+      s.homes s.views r.boxed
       id w m.0 v' there mine refl refl refl (λ i g l _ _. (l, refl)) refl C.append C.issue refl)
       tt tt (BoundRaised (step slots i (to + 2 ^ 62) 0 none) m n)
       (λ u z h key q role high word first. each_bound_name t f to

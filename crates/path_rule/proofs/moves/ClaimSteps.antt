@@ -92,7 +92,8 @@ module _ {K : Type 0} (shows : K → Lasting) (o : Beside) (size : PathSize) (sl
       } in
       acts_with shows o size slots id m w mine s r there e refl may tt tt tt
       (rows_stay x e may (λ q. q) r.rows) to to refl refl tt
-      (λ C. boxed_stay shows size.seats x.notes (shown o size.at_open r.kept_to r.filed r.dropped x) x.claims
+      (λ C. boxed_stay shows size.seats x.notes (shown o size.at_open r.kept_to r.filed r.dropped x)
+      x.claims
       (next_of x e).claims x.append x.append s.homes s.views r.boxed id w m.0 v' there mine refl
       refl refl (claim_bars x.claims (claim_of x.capacity w from to Entry) refl)
       (ap (option_map kept_of) (last_marker_stays x e (λ b. b))) C.append C.issue refl)

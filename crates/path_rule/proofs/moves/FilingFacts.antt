@@ -279,7 +279,8 @@ module _ {K : Type 0} (shows : K → Lasting) (o : Beside) (size : PathSize) (sl
 
     pub may_be_put : (cells : List (CellKey × Cell)) → AreSeen q t.0 cells
         → MayPut m.0.hands.lasting (next_file m.0.hands.lasting t.0 bound cells)
-    may_be_put cells seen h holds = let D = (hands_now shows o size slots id m w mine s r there).desk
+    may_be_put cells seen h holds = let D = (hands_now shows o size slots id m w mine s r
+        there).desk
         (is_held m.0.part.sync turn sync) in
         let E : lasting_of h ≡ shown o size.at_open r.kept_to r.filed r.dropped x = holds ∙ D.0 in
         let files : map put_table h.files ≡ r.filed.files =

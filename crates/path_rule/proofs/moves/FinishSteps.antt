@@ -143,7 +143,8 @@ module _ {K : Type 0} (shows : K → Lasting) (o : Beside) (size : PathSize) (sl
       ∙ less_word c (some_left x (core_lawful shows o size s r) Write w g here)
       (subst (λ z. z < 2 ^ 64) found low)) refl tt
       (λ C. boxed_stay shows size.seats x.notes
-      (shown o size.at_open r.kept_to r.filed r.dropped x) x.claims x.claims x.append x.append s.homes s.views r.boxed
+      (shown o size.at_open r.kept_to r.filed r.dropped x) x.claims x.claims x.append x.append
+      s.homes s.views r.boxed
       id w m.0 v' there mine refl refl refl (λ i g l _ _. (l, refl)) refl C.append C.issue refl)
       (λ C. closed_puts r.memtables.contents size.seats w m.0.part v'.part m.0.hands rests C.claim
       (puts_now shows o size s r id w m.0 there mine))

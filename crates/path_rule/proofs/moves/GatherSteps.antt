@@ -139,8 +139,8 @@ module _ {K : Type 0} (shows : K → Lasting) (o : Beside) (size : PathSize) (sl
             (λ q. ⊎_elim (λ d. false≢true (sym bare ∙ d.0))
             (λ taken. false≢true (sym bare ∙
             ((subst (HandsAs r.boxed.contents
-            (shown o size.at_open r.kept_to r.filed r.dropped r.core) r.boxed.pending r.boxed.progress r.core.append
-            size.seats
+            (shown o size.at_open r.kept_to r.filed r.dropped r.core) r.boxed.pending
+            r.boxed.progress r.core.append size.seats
             u.part
             u.hands) is (r.boxed.in_hands j u e)).other (box_of k (suc cur)) taken).holds)) q) h
 
@@ -148,8 +148,8 @@ module _ {K : Type 0} (shows : K → Lasting) (o : Beside) (size : PathSize) (sl
     looked : (n : ℕ) → n ≡ r.core.append.oldest → (h : Hands) (a : Act (Slot K)) → let e =
         Look w (Oldest Append) in let v' = view_after (with_hands h m.0) e n in
         (Columns e m.0.part v'.part → Boxed shows size.seats r.core.notes
-        (shown o size.at_open r.kept_to r.filed r.dropped r.core) r.core.claims r.core.append (homes_after s.homes m.1
-        a)
+        (shown o size.at_open r.kept_to r.filed r.dropped r.core) r.core.claims r.core.append
+        (homes_after s.homes m.1 a)
         (set s.views id v'))
         → SameHeld m.0.hands h → MovesBelow (boxes size.seats) m.1 a
         → Ruled shows o size (stepped s 3 n id m.1 v' a) × Was m.0 w e
@@ -187,13 +187,13 @@ module _ {K : Type 0} (shows : K → Lasting) (o : Beside) (size : PathSize) (sl
       let home = r.boxed.at_home box (omega arith) (other_free s r there held k empty passed) in
       let few = subst (λ (l : List EntryNote). length l + length ns ≤ 2 ^ 62)
       (sym ((hands_now shows o size slots id m w mine s r there).desk held).1)
-      (few_kept shows size.seats x (core_lawful shows o size s r) (shown o size.at_open r.kept_to r.filed r.dropped x)
-      x.claims
+      (few_kept shows size.seats x (core_lawful shows o size s r) (shown o size.at_open r.kept_to
+      r.filed r.dropped x) x.claims
       x.append s.homes s.views r.boxed box) in
       let did = looked s r there held n found h (takes box home.0)
       (λ C. boxed_gather shows size.seats x.notes
-      (shown o size.at_open r.kept_to r.filed r.dropped x) x.claims x.claims x.append x.append s.homes s.views r.boxed
-      id w m.0 v'
+      (shown o size.at_open r.kept_to r.filed r.dropped x) x.claims x.claims x.append x.append
+      s.homes s.views r.boxed id w m.0 v'
       there
       mine refl out (C.append ∙ out) held
       (sym (is_some_held v'.part) ∙ (ap (λ (o : Option Issue). is_some o) C.issue
@@ -267,12 +267,12 @@ module _ {K : Type 0} (shows : K → Lasting) (o : Beside) (size : PathSize) (sl
       let sized = (known shows o size s r id w m.0 there mine).0 in
       let box : ℕ → ℕ = λ d. box_of k (suc d) in
       let did = looked s r there held n found h gives
-      (λ C. subst (λ l. Boxed shows size.seats x.notes (shown o size.at_open r.kept_to r.filed r.dropped x) x.claims
-      x.append
+      (λ C. subst (λ l. Boxed shows size.seats x.notes (shown o size.at_open r.kept_to r.filed
+      r.dropped x) x.claims x.append
       (put_back s.homes l) (set s.views id v')) (sym (holds ∙ (λ i. (box (now i), y) ∷ cs)))
       (boxed_give_back shows size.seats x.notes
-      (shown o size.at_open r.kept_to r.filed r.dropped x) x.claims x.claims x.append x.append s.homes s.views r.boxed
-      id w m.0 v'
+      (shown o size.at_open r.kept_to r.filed r.dropped x) x.claims x.claims x.append x.append
+      s.homes s.views r.boxed id w m.0 v'
       there
       mine refl out (C.append ∙ out) held
       (sym (is_some_held v'.part) ∙ (ap (λ (o : Option Issue). is_some o) C.issue

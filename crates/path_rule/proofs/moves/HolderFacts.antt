@@ -130,12 +130,12 @@ module _ {K : Type 0} (shows : K → Lasting) (o : Beside) (size : PathSize) (sl
 
   pub hands_now : (s : State (Slot K) View) (r : Ruled shows o size s)
       → get_elem? s.views id ≡ some m.0
-      → HandsAre r.boxed.contents (shown o size.at_open r.kept_to r.filed r.dropped r.core) r.boxed.pending
-      r.boxed.progress
+      → HandsAre r.boxed.contents (shown o size.at_open r.kept_to r.filed r.dropped r.core)
+      r.boxed.pending r.boxed.progress
       r.core.append
       size.seats w m.0.part m.0.hands
   hands_now s r there = subst (HandsAs r.boxed.contents
-      (shown o size.at_open r.kept_to r.filed r.dropped r.core) r.boxed.pending r.boxed.progress r.core.append
-      size.seats m.0.part
+      (shown o size.at_open r.kept_to r.filed r.dropped r.core) r.boxed.pending r.boxed.progress
+      r.core.append size.seats m.0.part
       m.0.hands)
       mine (r.boxed.in_hands id m.0 there)

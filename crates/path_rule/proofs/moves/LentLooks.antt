@@ -170,7 +170,8 @@ module _ {K : Type 0} (shows : K → Lasting) (o : Beside) (size : PathSize) (sl
               record { seat = S.0.seat; is_there = S.0.is_there; row = S.0.row },
               may_be_lent x (core_lawful shows o size s r) o w size.at_open r.kept_to value barred.0
                   barred.1 r.filed r.dropped (dropped_below x (core_lawful shows o size s r) size
-                  r.filed r.dropped r.filing) r.may_be_kept marked S.0 m.0.hands.lasting run D.0 S.1,
+                  r.filed r.dropped r.filing) r.may_be_kept marked S.0 m.0.hands.lasting run D.0
+                  S.1,
             )),
         goes,
       ))

@@ -188,8 +188,8 @@ module _ {K : Type 0} (shows : K → Lasting) (o : Beside) (size : PathSize) (sl
         ≡ seat_after m.0.part e (reading x (place_of e)) (told_of x e)
         → ToldTrue x e found None
         → (Columns e m.0.part (view_after m.0 e found).part
-        → Boxed shows size.seats (next_of x e).notes (shown o size.at_open r.kept_to r.filed r.dropped (next_of x e))
-        (next_of x
+        → Boxed shows size.seats (next_of x e).notes (shown o size.at_open r.kept_to r.filed
+        r.dropped (next_of x e)) (next_of x
         e).claims
         (next_of x e).append s.homes (set s.views id (view_after m.0 e found)))
         → (Columns e m.0.part (view_after m.0 e found).part
@@ -227,8 +227,8 @@ module _ {K : Type 0} (shows : K → Lasting) (o : Beside) (size : PathSize) (sl
         ≡ seat_after m.0.part e (reading x (place_of e)) (told_of x e)
         → ToldTrue x e found None
         → (Columns e m.0.part (view_after m.0 e found).part
-        → Boxed shows size.seats (next_of x e).notes (shown o size.at_open r.kept_to r.filed r.dropped (next_of x e))
-        (next_of x
+        → Boxed shows size.seats (next_of x e).notes (shown o size.at_open r.kept_to r.filed
+        r.dropped (next_of x e)) (next_of x
         e).claims
         (next_of x e).append s.homes (set s.views id (view_after m.0 e found)))
         → LeavesWrite e → LeavesReading m.0.hands e → (then : Me (Slot K) View → Type 0)
@@ -266,8 +266,8 @@ module _ {K : Type 0} (shows : K → Lasting) (o : Beside) (size : PathSize) (sl
         (ap (reading_at at) found ∙ read_back x L at))
         found
         (λ C. boxed_stay shows size.seats x.notes
-        (shown o size.at_open r.kept_to r.filed r.dropped x) x.claims x.claims x.append x.append s.homes s.views
-        r.boxed
+        (shown o size.at_open r.kept_to r.filed r.dropped x) x.claims x.claims x.append x.append
+        s.homes s.views r.boxed
         id w m.0
         (view_after m.0 (Look w at) n) there mine refl refl refl
         (λ i g l _ _. (l, refl)) refl C.append C.issue refl)

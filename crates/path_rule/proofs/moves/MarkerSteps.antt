@@ -103,7 +103,8 @@ module _ {K : Type 0} (shows : K → Lasting) (o : Beside) (size : PathSize) (sl
         tt,
         plays shows o size s r id w m.0 there mine e refl may tt running tt
             (rows_stay x e may (λ q. q) r.rows) to to None h refl refl tt m.1 keeps
-            (boxed_goes shows size.seats x.notes (shown o size.at_open r.kept_to r.filed r.dropped x) x.claims
+            (boxed_goes shows size.seats x.notes (shown o size.at_open r.kept_to r.filed r.dropped
+            x) x.claims
             (next_of x e).claims x.append x.append s.homes s.views B id w m.0 v' there mine refl
             out out held (still _ m.0.part.sync held)
             (others_free shows o size slots id m w mine s r there held)

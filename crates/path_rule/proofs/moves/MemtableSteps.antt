@@ -215,8 +215,8 @@ module _ {K : Type 0} (shows : K → Lasting) (o : Beside) (size : PathSize) (sl
       (λ q in_it. let b = below_log x law q (M.sound w t.0 k q small in_it).among in omega arith) in
       omega arith) in
       let did = looked s r there t small inside h (takes box home.0) refl
-      (λ C. boxed_other shows size.seats x.notes (shown o size.at_open r.kept_to r.filed r.dropped x) x.claims
-      x.append s.homes s.views r.boxed id m.0 v' there refl (set s.homes box none)
+      (λ C. boxed_other shows size.seats x.notes (shown o size.at_open r.kept_to r.filed r.dropped
+      x) x.claims x.append s.homes s.views r.boxed id m.0 v' there refl (set s.homes box none)
       (λ b l. set_else s.homes box b none (λ q. absurd (omega arith))) C.append C.issue (Some box)
       held m.0.hands.applied m.0.hands.reading refl)
       (λ C. memtable_taken size.seats x.notes x.placed x.tables s.homes s.views M id m.0 v' there
@@ -264,10 +264,10 @@ module _ {K : Type 0} (shows : K → Lasting) (o : Beside) (size : PathSize) (sl
       ap (λ (z : PathSize). memtable_box z.seats w t.0 k) (sized s r there) in
       let carried : m.1 ≡ (box, y) ∷ cs = holds ∙ (λ i. (same i, y) ∷ cs) in
       let did = looked s r there t small inside h gives refl
-      (λ C. subst (λ l. Boxed shows size.seats x.notes (shown o size.at_open r.kept_to r.filed r.dropped x) x.claims
-      x.append (put_back s.homes l) (set s.views id v')) (sym carried)
-      (boxed_other shows size.seats x.notes (shown o size.at_open r.kept_to r.filed r.dropped x) x.claims
-      x.append s.homes s.views r.boxed id m.0 v' there refl (set s.homes box (some y))
+      (λ C. subst (λ l. Boxed shows size.seats x.notes (shown o size.at_open r.kept_to r.filed
+      r.dropped x) x.claims x.append (put_back s.homes l) (set s.views id v')) (sym carried)
+      (boxed_other shows size.seats x.notes (shown o size.at_open r.kept_to r.filed r.dropped x)
+      x.claims x.append s.homes s.views r.boxed id m.0 v' there refl (set s.homes box (some y))
       (λ b l. set_else s.homes box b (some y) (λ q. absurd (omega arith))) C.append C.issue None
       [] (new ∷ m.0.hands.applied) m.0.hands.reading refl))
       (λ C. subst (λ l. HasMemtables size.seats x.notes x.placed x.tables (put_back s.homes l)

@@ -31,7 +31,7 @@ use Rattle.std.proofs.Common.{
 use Rattle.std.specs.Prelude.{slice_index, ◌≤◌, ◌⊎◌}
 use Rattle.std.specs.List.{Contains}
 use mathlib.Core.Logic.{dite, inl, inr}
-use mathlib.Core.Option.{some, none, some-injective, some-ne-none}
+use mathlib.Core.Option.{some, none}
 use mathlib.Core.Option as maybe
 use native.Mathlib.Decide.{ℕ_discrete}
 use lib.ListN.{get_elem?}
@@ -361,8 +361,8 @@ module _ {K : Type 0} (shows : K → Lasting) (o : Beside) (size : PathSize) (s 
           → ((p : Placed) → Contains x'.placed p → IsKeptAt x'.tables p → LiesPlaced p)
           → RunsOn e v' → MemtablesThen cs a
       memtables_then cs a below held read applied puts kept runs = memtables_stay size.seats
-          r.core.notes x'.notes r.core.placed x'.placed r.core.tables x'.tables s.homes s.views r.memtables id
-          v v' at (notes_stay r.core e) (homes_after s.homes cs a)
+          r.core.notes x'.notes r.core.placed x'.placed r.core.tables x'.tables s.homes s.views
+          r.memtables id v v' at (notes_stay r.core e) (homes_after s.homes cs a)
           (same_above (boxes size.seats) s.homes cs a below) held read applied
           (subst (PutsAs r.memtables.contents size.seats v'.part h) (sym mine) puts) kept
           (λ z t k n few q. ⊎_elim (λ p. inl (placed_still e may built t k n.end.0 p))
@@ -548,7 +548,8 @@ module _ {K : Type 0} (shows : K → Lasting) (o : Beside) (size : PathSize) (s 
 
       -- with what it may have kept before
       pub plays : ToldTrue r.core e found filed → (cs : List (ℕ × Slot K)) (a : Act (Slot K))
-          → Boxed shows size.seats x'.notes (shown o size.at_open r.kept_to r.filed r.dropped x') x'.claims x'.append
+          → Boxed shows size.seats x'.notes (shown o size.at_open r.kept_to r.filed r.dropped x')
+          x'.claims x'.append
           (homes_after s.homes cs a) (set s.views id v') → LeavesWrite e → SameHeld v.hands h
           → MovesBelow (boxes size.seats) cs a → LeavesReading v.hands e
           → Ruled shows o size (stepped s (word_at (place_of e)) n id cs v' a)
@@ -557,7 +558,8 @@ module _ {K : Type 0} (shows : K → Lasting) (o : Beside) (size : PathSize) (s 
       -- and what is in the boxes of memtables
       pub plays_with : ToldTrue r.core e found filed → x'.files ≡ r.core.files
           → (cs : List (ℕ × Slot K)) (a : Act (Slot K))
-          → Boxed shows size.seats x'.notes (shown o size.at_open r.kept_to r.filed r.dropped x') x'.claims x'.append
+          → Boxed shows size.seats x'.notes (shown o size.at_open r.kept_to r.filed r.dropped x')
+          x'.claims x'.append
           (homes_after s.homes cs a) (set s.views id v') → MemtablesThen cs a → ReadsThen
           → Ruled shows o size (stepped s (word_at (place_of e)) n id cs v' a)
       plays_with true_told same cs a boxed memtables reads = plays_all true_told r.kept_to kept_now

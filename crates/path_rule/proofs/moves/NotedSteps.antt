@@ -1,5 +1,5 @@
--- The holder of the Sync turn learns what the keeper shows after it refused a table file, or dropped
--- segments: at a look, or where it stops the log because the keeper has stopped.
+-- The holder of the Sync turn learns what the keeper shows after it refused a table file, or
+-- dropped segments: at a look, or where it stops the log because the keeper has stopped.
 use Rattle.std.proofs.Common.{
   ◌≡◌,
   ℕ,
@@ -201,8 +201,8 @@ module _ {K : Type 0} (shows : K → Lasting) (o : Beside) (size : PathSize) (sl
             (kept_stays x L e may r.kept_to r.may_be_kept) (put s r there) dropped
             (filing_stays x L size (put s r there) dropped e may refl (filed_now s r there)) m.1
             keeps
-            (boxed_noted s r there (shown o size.at_open r.kept_to (put s r there) dropped x) v' refl
-            (outside shows o size slots id m w mine s r there held)
+            (boxed_noted s r there (shown o size.at_open r.kept_to (put s r there) dropped x) v'
+            refl (outside shows o size slots id m w mine s r there held)
             (still _ m.0.part.sync held) stopped refl refl after_is) tt (refl, refl, refl, refl) tt
             tt,
         each_seat_name shows o size slots id m w mine

@@ -1,5 +1,27 @@
 -- The holder of a Flush turn reads the boxes of a memtable behind its barrier.
-use Rattle.std.proofs.Common.{◌≡◌, ◌≢◌, ℕ, suc, ◌+◌, ◌*◌, ◌<◌, ⊎_elim, List, ◌∷◌, Option, set, Some, None, is_some, refl, sym, ap, ◌∙◌, subst, arith}
+use Rattle.std.proofs.Common.{
+  ◌≡◌,
+  ◌≢◌,
+  ℕ,
+  suc,
+  ◌+◌,
+  ◌*◌,
+  ◌<◌,
+  ⊎_elim,
+  List,
+  ◌∷◌,
+  Option,
+  set,
+  Some,
+  None,
+  is_some,
+  refl,
+  sym,
+  ap,
+  ◌∙◌,
+  subst,
+  arith,
+}
 use Rattle.std.specs.Prelude.{slice_index}
 use Rattle.std.specs.List.{filter, Contains}
 use Rattle.std.proofs.lemmas.Bool.{lt-ltb, ltb-true}
@@ -96,7 +118,17 @@ use Rattle.path_rule.proofs.moves.BoundSteps.{each_bound_name}
 use Rattle.path_rule.proofs.moves.LeftMemtables.{begins_held, begins_passed}
 use Rattle.path_rule.proofs.moves.Looks.{few_tables, within}
 use Rattle.path_rule.proofs.moves.MemtableSteps.{others_are, sized}
-use Rattle.path_rule.proofs.moves.Moving.{columns_now, core_lawful, part_is, place_still, plays_with, puts_now, reads_now, reads_then, was}
+use Rattle.path_rule.proofs.moves.Moving.{
+  columns_now,
+  core_lawful,
+  part_is,
+  place_still,
+  plays_with,
+  puts_now,
+  reads_now,
+  reads_then,
+  was,
+}
 use Rattle.path_rule.proofs.moves.SwitchSteps.{oldest_is}
 use Rattle.path_rule.proofs.moves.TableTurns.{each_table_name}
 use Rattle.path_rule.proofs.places.ReadBack.{read_back, rows_stay}
@@ -136,7 +168,8 @@ module _ {K : Type 0} (shows : K → Lasting) (o : Beside) (size : PathSize) (sl
         None h found told in (
           plays_with shows o size s r id w m.0 there mine e refl may tt tt spot rows n n None h
               found told found refl m.1 a
-              (boxed_other shows size.seats x.notes (shown o size.at_open r.kept_to r.filed r.dropped x) x.claims
+              (boxed_other shows size.seats x.notes (shown o size.at_open r.kept_to r.filed
+              r.dropped x) x.claims
               x.append s.homes s.views r.boxed id m.0 v' there refl (homes_after s.homes m.1 a)
               below C.append C.issue m.0.hands.memtable_box m.0.hands.held m.0.hands.applied q refl)
               (memtables C)
@@ -315,8 +348,8 @@ module _ {K : Type 0} (shows : K → Lasting) (o : Beside) (size : PathSize) (sl
     }
 
   pub begins_first : (t : Table) → MayBeginRead t.0 m.0 0 → FlushOldest t.0 m.0.part 0
-      → TakesNone m.0.hands → t.0 < 16 → t.0 < m.0.size.tables → Allows (Ruled shows o size) slots id m (8 + 4 * t.0) (λ n. n)
-      (FirstBegun (step slots (8 + 4 * t.0) 0 0 none) m)
+      → TakesNone m.0.hands → t.0 < 16 → t.0 < m.0.size.tables → Allows (Ruled shows o size) slots
+      id m (8 + 4 * t.0) (λ n. n) (FirstBegun (step slots (8 + 4 * t.0) 0 0 none) m)
   begins_first t may oldest unread few inside s r _ there _ =
       let n = slice_index s.words (8 + 4 * t.0) in let e = Look w (Newest t) in
       let q = first_read t.0 0 0 in let h = with_reading (Some q) m.0.hands in

@@ -175,8 +175,8 @@ module _ {K : Type 0} (shows : K → Lasting) (o : Beside) (size : PathSize) (sl
         subst (λ (l : List EntryNote). IsPermutation l pending) D.1 perm in
         let back : (n : EntryNote) → Contains pending n → Contains B.pending n =
         λ n a. Contains-permutation pending B.pending n (IsPermutation-sym B.pending pending P) a in
-        boxed_desk_turns shows size.seats x.notes (shown o size.at_open r.kept_to r.filed r.dropped x) after x.claims
-        x.append
+        boxed_desk_turns shows size.seats x.notes (shown o size.at_open r.kept_to r.filed r.dropped
+        x) after x.claims x.append
         s.homes s.views B id w m.0 v' there mine role
         (outside shows o size slots id m w mine s r there held) out held on empty
         (ap (λ (h : Hands). h.box_taken) hands ∙ empty)
@@ -214,7 +214,8 @@ module _ {K : Type 0} (shows : K → Lasting) (o : Beside) (size : PathSize) (sl
         is_there = tt;
         row = tt;
       } in
-      let after_is : refused_lasting kept stopped m.0.hands.lasting ≡ shown o size.at_open k.0 r.filed r.dropped x =
+      let after_is : refused_lasting kept stopped m.0.hands.lasting ≡ shown o size.at_open k.0
+      r.filed r.dropped x =
       (λ j. refused_lasting (k.2 j) ((ap (λ (l : Lasting). l.stopped) D.0) j) (D.0 j)) in (
         v',
         keeps,
@@ -274,8 +275,8 @@ module _ {K : Type 0} (shows : K → Lasting) (o : Beside) (size : PathSize) (sl
         plays_to shows o size s r id w m.0 there mine e refl may tt built tt
             (rows_stay x e may (λ q. q) r.rows) value value None h refl refl tt k.0
             (kept_stays x (core_lawful shows o size s r) e may k.0 k.1) m.1 keeps
-            (boxed_now s r there (Some value) (shown o size.at_open k.0 r.filed r.dropped (next_of x e)) v' refl
-            (outside shows o size slots id m w mine s r there held)
+            (boxed_now s r there (Some value) (shown o size.at_open k.0 r.filed r.dropped
+            (next_of x e)) v' refl (outside shows o size slots id m w mine s r there held)
             (still _ m.0.part.sync held) refl refl after_is) tt (refl, refl, refl, refl) tt tt,
         (λ z u role bar. subst
             (λ (q : ℕ). MadeRefused shows q (Some value) z (Put z Stopped value) value m (v', m.1))

@@ -1,5 +1,28 @@
 -- The holder of a Flush turn retires a memtable in which nothing was placed.
-use Rattle.std.proofs.Common.{◌≡◌, ℕ, suc, ◌+◌, ◌*◌, ◌<◌, Bool, true, cond, List, [], ◌∷◌, ◌++◌, Some, None, is_some, refl, sym, ap, ◌∙◌, subst, arith}
+use Rattle.std.proofs.Common.{
+  ◌≡◌,
+  ℕ,
+  suc,
+  ◌+◌,
+  ◌*◌,
+  ◌<◌,
+  Bool,
+  true,
+  cond,
+  List,
+  [],
+  ◌∷◌,
+  ◌++◌,
+  Some,
+  None,
+  is_some,
+  refl,
+  sym,
+  ap,
+  ◌∙◌,
+  subst,
+  arith,
+}
 use Rattle.std.specs.Prelude.{not}
 use Rattle.std.specs.List.{Contains}
 use Rattle.std.proofs.lemmas.Option.{none-some, same_Some}
@@ -106,7 +129,8 @@ module _ {K : Type 0} (shows : K → Lasting) (o : Beside) (size : PathSize) (sl
             f None h refl told
             (sym (ap not empty), λ lower gave. absurd (none-some lower gave))
             (none_filed_now x w t f empty) m.1 keeps
-            (boxed_other shows size.seats x.notes (shown o size.at_open r.kept_to r.filed r.dropped x) x.claims
+            (boxed_other shows size.seats x.notes (shown o size.at_open r.kept_to r.filed r.dropped
+            x) x.claims
             x.append s.homes s.views r.boxed id m.0 v' there refl s.homes (λ b l. refl) C.append
             C.issue m.0.hands.memtable_box m.0.hands.held m.0.hands.applied None refl)
             (retabled size.seats x.notes x.placed x.tables (next_of x e).tables s.homes _

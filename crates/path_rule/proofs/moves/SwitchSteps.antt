@@ -175,7 +175,8 @@ module _ {K : Type 0} (shows : K → Lasting) (o : Beside) (size : PathSize) (sl
       acts shows o size slots id m w mine s r there e refl may tt tt few
       (rows_opened x w t f r.rows within_tables (omega arith)) f f refl refl tt
       (λ C. boxed_stay shows size.seats x.notes
-      (shown o size.at_open r.kept_to r.filed r.dropped x) x.claims x.claims x.append x.append s.homes s.views r.boxed
+      (shown o size.at_open r.kept_to r.filed r.dropped x) x.claims x.claims x.append x.append
+      s.homes s.views r.boxed
       id w m.0 v' there mine refl refl refl (λ i g l _ _. (l, refl)) refl C.append C.issue refl)
       tt tt (MemtableOpened (step slots (8 + 4 * t.0) f 0 none) m f)
       (λ u z q role _ word. each_table_name shows o size slots id m w mine 8 t
@@ -208,7 +209,8 @@ module _ {K : Type 0} (shows : K → Lasting) (o : Beside) (size : PathSize) (sl
       acts shows o size slots id m w mine s r there e refl may tt tt (few, small)
       (rows_stay x e may (λ q. q) r.rows) (2 ^ 62) (2 ^ 62) refl refl tt
       (λ C. boxed_stay shows size.seats x.notes
-      (shown o size.at_open r.kept_to r.filed r.dropped x) x.claims x.claims x.append x.append s.homes s.views r.boxed
+      (shown o size.at_open r.kept_to r.filed r.dropped x) x.claims x.claims x.append x.append
+      s.homes s.views r.boxed
       id w m.0 v' there mine refl refl refl (λ i g l _ _. (l, refl)) refl C.append C.issue refl)
       tt tt (MemtableMarked (step slots (131144 + 16 * f + t.0) (2 ^ 62) 0 none) m (2 ^ 62))
       (λ u z h q role high word. each_bound_name shows o size slots id m w mine t f 0
@@ -273,7 +275,8 @@ module _ {K : Type 0} (shows : K → Lasting) (o : Beside) (size : PathSize) (sl
       (ap (reading_at (Bound t f)) found ∙ read_back x L (Bound t f)))
       found
       (λ C. boxed_stay shows size.seats x.notes
-      (shown o size.at_open r.kept_to r.filed r.dropped x) x.claims x.claims x.append x.append s.homes s.views r.boxed
+      (shown o size.at_open r.kept_to r.filed r.dropped x) x.claims x.claims x.append x.append
+      s.homes s.views r.boxed
       id w m.0 v' there mine refl refl refl (λ i g l _ _. (l, refl)) refl C.append C.issue refl)
       tt tt (MemtableFinal (step slots i (2 ^ 62) 0 none) m n)
       (λ u z h q role high word. each_bound_name shows o size slots id m w mine t f 0

@@ -99,8 +99,8 @@ module _ {K : Type 0} (shows : K → Lasting) (o : Beside) (size : PathSize) (sl
               (λ n h. B.sound n (inl h)) (λ n h. B.unlogged n (inl h))
               (λ k. let a = B.alone k 0 1 (λ q. absurd (omega arith)) in omega arith)
               (λ n h le. gathered_all shows size.seats x.notes
-              (shown o size.at_open r.kept_to r.filed r.dropped x) x.claims x.append s.homes s.views B whole M.number
-              group M.inside
+              (shown o size.at_open r.kept_to r.filed r.dropped x) x.claims x.append s.homes s.views
+              B whole M.number group M.inside
               M.marker
               M.barrier below n h
               (omega arith)),

@@ -71,7 +71,8 @@ use Rattle.path_rule.proofs.moves.SyncFacts.{turn_exact, settled}
 use Rattle.path_rule.proofs.places.ReadBack.{rows_stay}
 
 -- What two seats know of one desk is the same.
-pub desk_same : {K : Type 0} (shows : K → Lasting) (y z : Slot K) (l k : Lasting) (p q : List EntryNote)
+pub desk_same : {K : Type 0} (shows : K → Lasting) (y z : Slot K) (l k : Lasting)
+    (p q : List EntryNote)
     (f : Progress) → y ≡ z → DeskIs shows y l p f → DeskIs shows z k q f → (l ≡ k) × (p ≡ q)
 desk_same shows (Notes n) z l k p q f e a b = absurd a
 desk_same shows (Turn d) (Notes n) l k p q f e a b = absurd b
@@ -119,14 +120,14 @@ module _ {K : Type 0} (shows : K → Lasting) (o : Beside) (size : PathSize) (sl
       law.each_claim_noted_once law.notes_are_claims k h) in
       let both : ends (old ++ run) ≡ lasting_ends x ++ ends run =
       map-append (λ (k : EntryNote). k.end.0) old run in
-      let now_is : more_lasting run value (shown o size.at_open r.kept_to r.filed r.dropped x) ≡ shown o size.at_open
-      value r.filed r.dropped (next_of x e) =
+      let now_is : more_lasting run value (shown o size.at_open r.kept_to r.filed r.dropped x)
+      ≡ shown o size.at_open value r.filed r.dropped (next_of x e) =
       (λ j. record (more_lasting run value (shown o size.at_open r.kept_to r.filed r.dropped x)) {
         logged = lasts j;
         kept = sym (none_kept value value x.notes (omega arith)) j;
       }) in
-      let now : shown o size.at_open value r.filed r.dropped (next_of x e) ≡ more_lasting run value m.0.hands.lasting
-      =
+      let now : shown o size.at_open value r.filed r.dropped (next_of x e) ≡ more_lasting run value
+      m.0.hands.lasting =
       sym now_is ∙ (λ j. more_lasting run value (sym D.0 j)) in
       let h = with_desk (more_lasting run value m.0.hands.lasting) left m.0.hands.progress
       m.0.hands in let v' = view_after (with_hands h m.0) e value in
@@ -137,9 +138,10 @@ module _ {K : Type 0} (shows : K → Lasting) (o : Beside) (size : PathSize) (sl
       inr (let k = P.low o.0 o.1 in let z = o.2 in omega arith))
       (Contains-append_cases (lasting_ends x) (ends run) q.end.0
       (subst (λ (l : List ℕ). Contains l q.end.0) both h)) in
-      let boxed = boxed_desk_turns shows size.seats x.notes (shown o size.at_open r.kept_to r.filed r.dropped x)
-      (more_lasting run value (shown o size.at_open r.kept_to r.filed r.dropped x)) x.claims x.append s.homes s.views
-      B
+      let boxed = boxed_desk_turns shows size.seats x.notes (shown o size.at_open r.kept_to r.filed
+      r.dropped x)
+      (more_lasting run value (shown o size.at_open r.kept_to r.filed r.dropped x)) x.claims
+      x.append s.homes s.views B
       id w
       m.0 v'
       there mine refl out out held (still_some m.0.part.sync held) empty empty
@@ -186,8 +188,8 @@ module _ {K : Type 0} (shows : K → Lasting) (o : Beside) (size : PathSize) (sl
                 ap (λ (z : PathSize). shown m.0.hands.lasting.beside z.at_open value
                     m.0.hands.lasting.filed m.0.hands.lasting.dropped (next_of x e))
                     (known shows o size s r id w m.0 there mine).0
-                    ∙ (ap (λ (l : Lasting). shown l.beside size.at_open value l.filed l.dropped (next_of x e))
-                    D.0 ∙ now),
+                    ∙ (ap (λ (l : Lasting). shown l.beside size.at_open value l.filed l.dropped
+                    (next_of x e)) D.0 ∙ now),
               ),
             )) z role),
       )

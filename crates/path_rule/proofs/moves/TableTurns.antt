@@ -131,7 +131,8 @@ module _ {K : Type 0} (shows : K → Lasting) (o : Beside) (size : PathSize) (sl
       acts shows o size slots id m w mine s r there e refl may tt tt few
       (rows_stay x e may (λ q. q) r.rows) 1 1 refl refl tt
       (λ C. boxed_stay shows size.seats x.notes
-      (shown o size.at_open r.kept_to r.filed r.dropped x) x.claims x.claims x.append x.append s.homes s.views r.boxed
+      (shown o size.at_open r.kept_to r.filed r.dropped x) x.claims x.claims x.append x.append
+      s.homes s.views r.boxed
       id w m.0 v' there mine refl refl refl (λ i g l _ _. (l, refl)) refl C.append C.issue refl)
       tt tt then (λ u z q role _ word. each_table_name 9 t
       (λ z q. (n ≡ 0 → Made z (TakeTurn z (Flush q)) 1 m (v', m.1) × ReadsHeld m.0)
@@ -240,7 +241,8 @@ module _ {K : Type 0} (shows : K → Lasting) (o : Beside) (size : PathSize) (sl
       acts shows o size slots id m w mine s r there e refl may tt tt few
       (rows_stay x e may (λ q. q) r.rows) 0 0 refl refl tt
       (λ C. boxed_stay shows size.seats x.notes
-      (shown o size.at_open r.kept_to r.filed r.dropped x) x.claims x.claims x.append x.append s.homes s.views r.boxed
+      (shown o size.at_open r.kept_to r.filed r.dropped x) x.claims x.claims x.append x.append
+      s.homes s.views r.boxed
       id w m.0 v' there mine refl refl refl (λ i g l _ _. (l, refl)) refl C.append C.issue refl)
       tt (reads_none s r there t.0 through)
       (FlushGiven (step slots (9 + 4 * t.0) 0 0 none) m 0)

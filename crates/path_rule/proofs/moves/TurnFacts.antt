@@ -64,22 +64,22 @@ module _ {K : Type 0} (shows : K → Lasting) (o : Beside) (size : PathSize) (sl
     pub unseen : (groups : OrderGroups) (v' : View) → groups.current ≡ r.core.append.current
         → groups.oldest ≡ r.core.append.oldest → v'.role ≡ m.0.role → v'.part.append ≡ None
         → IsTrue (is_some v'.part.sync) → v'.hands ≡ m.0.hands → m.0.hands.box_taken ≡ None
-        → Boxed shows size.seats r.core.notes (shown o size.at_open r.kept_to r.filed r.dropped r.core) r.core.claims
-        groups s.homes
+        → Boxed shows size.seats r.core.notes (shown o size.at_open r.kept_to r.filed r.dropped
+        r.core) r.core.claims groups s.homes
         (set s.views id v')
     unseen groups v' current oldest role out still same empty = let H =
         hands_now shows o size slots id m w mine s r there in
         boxed_goes shows size.seats r.core.notes
-        (shown o size.at_open r.kept_to r.filed r.dropped r.core) r.core.claims r.core.claims r.core.append groups
-        s.homes s.views
+        (shown o size.at_open r.kept_to r.filed r.dropped r.core) r.core.claims r.core.claims
+        r.core.append groups s.homes s.views
         r.boxed
         id w m.0 v' there mine role (outside shows o size slots id m w mine s r there held) out
         held still
         (others_free shows o size slots id m w mine s r there held)
         (others_near shows o size slots id m w mine s r there held) r.boxed.progress empty
         (ap (λ (h : Hands). h.box_taken) same ∙ empty)
-        (subst (λ (h : Hands). (h.lasting ≡ shown o size.at_open r.kept_to r.filed r.dropped r.core) × (h.pending ≡
-        r.boxed.pending)
+        (subst (λ (h : Hands). (h.lasting ≡ shown o size.at_open r.kept_to r.filed r.dropped r.core)
+        × (h.pending ≡ r.boxed.pending)
         × (h.progress ≡ r.boxed.progress)) (sym same) (H.desk held))
         (let n = r.boxed.near in omega arith)
         (λ t. oldest ∙ (r.boxed.all t ∙ sym current)) r.boxed.marked

@@ -77,8 +77,8 @@ module _ {K : Type 0} (shows : K → Lasting) (o : Beside) (size : PathSize) (sl
       exchanged n 0 1 (λ z. Owes shows o size slots id m w mine s 7 z then)
       (λ hit. let e = TakeTurn w Sync in let is = as_part shows o size slots id m w mine s r there
       in
-      let h = with_desk (shown o size.at_open r.kept_to r.filed r.dropped x) r.boxed.pending r.boxed.progress
-      m.0.hands
+      let h = with_desk (shown o size.at_open r.kept_to r.filed r.dropped x) r.boxed.pending
+      r.boxed.progress m.0.hands
       in
       let v' = view_after (with_hands h m.0) e 1 in
       let free = unheld x Sync (ap Number (sym (r.words (TurnWord Sync) tt) ∙ hit)) in
@@ -98,8 +98,8 @@ module _ {K : Type 0} (shows : K → Lasting) (o : Beside) (size : PathSize) (sl
             (ap (λ k. seat_after m.0.part e (Number 1) (record { files = false; marker = k }))
             (sym r.boxed.marked)) tt m.1 (takes desk_box home.0)
             (boxed_desk_take shows size.seats x.notes
-            (shown o size.at_open r.kept_to r.filed r.dropped x) x.claims x.append s.homes s.views r.boxed id w m.0 v'
-            there mine
+            (shown o size.at_open r.kept_to r.filed r.dropped x) x.claims x.append s.homes s.views
+            r.boxed id w m.0 v' there mine
             refl
             idle.append idle.append empty empty refl refl (refl, refl, refl)) tt
             (refl, refl, refl, refl) (omega arith) tt,
@@ -170,12 +170,12 @@ module _ {K : Type 0} (shows : K → Lasting) (o : Beside) (size : PathSize) (sl
         plays shows o size s r id w m.0 there mine e refl may tt tt tt
             (rows_stay x e may (λ q. q) r.rows) 0 0 None h refl refl tt m.1 gives
             (subst
-            (λ l. Boxed shows size.seats x.notes (shown o size.at_open r.kept_to r.filed r.dropped x) x.claims
-            x.append
+            (λ l. Boxed shows size.seats x.notes (shown o size.at_open r.kept_to r.filed r.dropped
+            x) x.claims x.append
             (put_back s.homes l) (set s.views id v')) (sym holds)
             (boxed_desk_give shows size.seats x.notes
-            (shown o size.at_open r.kept_to r.filed r.dropped x) x.claims x.append s.homes s.views r.boxed id w m.0 v'
-            there mine
+            (shown o size.at_open r.kept_to r.filed r.dropped x) x.claims x.append s.homes s.views
+            r.boxed id w m.0 v' there mine
             refl out
             out empty empty refl y refl held fits (enough_boxes shows o size s r))) tt
             (refl, refl, refl, refl)

@@ -90,8 +90,8 @@ module _ {K : Type 0} (shows : K → Lasting) (o : Beside) (size : PathSize) (sl
       (rows_stay x e may (λ q. q) r.rows) (k + 1) (k + 1)
       (sym (more.1 ∙ ap (λ z. z + 1) (sym found ∙ hit))) refl tt
       (λ C. boxed_stay shows size.seats x.notes
-      (shown o size.at_open r.kept_to r.filed r.dropped x) x.claims x.claims x.append x.append s.homes s.views r.boxed
-      id w m.0 v'
+      (shown o size.at_open r.kept_to r.filed r.dropped x) x.claims x.claims x.append x.append
+      s.homes s.views r.boxed id w m.0 v'
       there
       mine refl refl refl (λ i g l _ _. (l, refl)) refl C.append C.issue refl)
       tt tt then (λ u z h role _ word. each_name shows o size slots id m w mine 72 g
@@ -141,8 +141,8 @@ module _ {K : Type 0} (shows : K → Lasting) (o : Beside) (size : PathSize) (sl
       ∙ less_word c (some_left x (core_lawful shows o size s r) Write w g here)
       (subst (λ z. z < 2 ^ 64) found low)) refl tt
       (λ C. boxed_stay shows size.seats x.notes
-      (shown o size.at_open r.kept_to r.filed r.dropped x) x.claims x.claims x.append x.append s.homes s.views r.boxed
-      id w m.0 v'
+      (shown o size.at_open r.kept_to r.filed r.dropped x) x.claims x.claims x.append x.append
+      s.homes s.views r.boxed id w m.0 v'
       there
       mine refl refl refl (λ i g l _ _. (l, refl)) refl C.append C.issue refl)
       (λ C. closed_puts r.memtables.contents size.seats w m.0.part v'.part m.0.hands rest C.claim

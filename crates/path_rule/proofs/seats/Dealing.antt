@@ -89,7 +89,8 @@ module _ {K : Type 0} (shows : K → Lasting) (o : Beside) (size : PathSize) (id
     sized = subst (λ ρ. SizedAs size ρ v.size) role (r.each_seat id v at).0
 
     abbrev Hand : View → Type 0
-    Hand y = HandsAs r.boxed.contents (shown o size.at_open r.kept_to r.filed r.dropped r.core) r.boxed.pending
+    Hand y = HandsAs r.boxed.contents (shown o size.at_open r.kept_to r.filed r.dropped r.core)
+        r.boxed.pending
         r.boxed.progress
         r.core.append
         size.seats y.part y.hands y.role
@@ -172,8 +173,8 @@ module _ {K : Type 0} (shows : K → Lasting) (o : Beside) (size : PathSize) (id
           unstepped = r.unstepped;
           tabled = r.tabled;
           boxed = reboxed shows size.seats r.core.notes
-              (shown o size.at_open r.kept_to r.filed r.dropped r.core) r.core.claims r.core.append s.homes s.views
-              (set s.views id (handing v) ++ handed v ∷ []) r.boxed
+              (shown o size.at_open r.kept_to r.filed r.dropped r.core) r.core.claims r.core.append
+              s.homes s.views (set s.views id (handing v) ++ handed v ∷ []) r.boxed
               (λ b free j u e h. dite (ℕ_discrete j id)
               (λ same. let u_is : u ≡ v = some-injective u v
               (sym e ∙ (ap (get_elem? s.views) same ∙ at)) in
@@ -185,8 +186,8 @@ module _ {K : Type 0} (shows : K → Lasting) (o : Beside) (size : PathSize) (id
               (λ old. ⊎_elim
               (λ (t : (j ≡ id) × (handing v ≡ u)). subst Hand t.1
               (subst (HandsAs r.boxed.contents
-              (shown o size.at_open r.kept_to r.filed r.dropped r.core) r.boxed.pending r.boxed.progress r.core.append
-              size.seats
+              (shown o size.at_open r.kept_to r.filed r.dropped r.core) r.boxed.pending
+              r.boxed.progress r.core.append size.seats
               v.part
               v.hands) (sym (ap one_on role)) tt))
               (λ (t : (j ≢ id) × (get_elem? s.views j ≡ some u)). r.boxed.in_hands j u t.1)

@@ -1,5 +1,19 @@
 -- What the holder of the Sync turn knows after it looked at the groups of an order.
-use Rattle.std.proofs.Common.{◌≡◌, ℕ, ◌^◌, Bool, true, false, is_some, Some, IsTrue, refl, sym, ap, subst}
+use Rattle.std.proofs.Common.{
+  ◌≡◌,
+  ℕ,
+  ◌^◌,
+  Bool,
+  true,
+  false,
+  is_some,
+  Some,
+  IsTrue,
+  refl,
+  sym,
+  ap,
+  subst,
+}
 use Rattle.std.specs.Prelude.{if◌then◌else◌}
 use Rattle.std.specs.Option.{option_map}
 use Rattle.op_core.specs.Tallies.{is_finished}

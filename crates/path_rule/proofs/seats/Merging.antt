@@ -120,8 +120,8 @@ module _ {K : Type 0} (shows : K → Lasting) (o : Beside) (size : PathSize) (id
         unstepped = r.unstepped;
         tabled = r.tabled;
         boxed = reboxed shows size.seats r.core.notes
-            (shown o size.at_open r.kept_to r.filed r.dropped r.core) r.core.claims r.core.append s.homes s.views
-            (set (set s.views id (taking v u)) other spent) r.boxed
+            (shown o size.at_open r.kept_to r.filed r.dropped r.core) r.core.claims r.core.append
+            s.homes s.views (set (set s.views id (taking v u)) other spent) r.boxed
             (λ b at_home j x e h. dite (ℕ_discrete j other)
             (λ same. bare b (subst (λ z. HoldsBox z b)
             (some-injective x u (sym e ∙ (ap (get_elem? s.views) same ∙ there))) h))
@@ -134,8 +134,8 @@ module _ {K : Type 0} (shows : K → Lasting) (o : Beside) (size : PathSize) (id
             (λ apart'. at_home j x (set_else (set s.views id (taking v u)) other j spent far
             ∙ (set_else s.views id j (taking v u) apart' ∙ e)) h)))
             (λ j x e. let Hand : View → Type 0 = λ y. HandsAs r.boxed.contents
-            (shown o size.at_open r.kept_to r.filed r.dropped r.core) r.boxed.pending r.boxed.progress r.core.append
-            size.seats
+            (shown o size.at_open r.kept_to r.filed r.dropped r.core) r.boxed.pending
+            r.boxed.progress r.core.append size.seats
             y.part
             y.hands y.role in ⊎_elim
             (λ (t : (j ≡ other) × (spent ≡ x)). subst Hand t.1 tt)

@@ -23,6 +23,6 @@ module _ {K : Type 0} (shows : K → Lasting) (o : Beside) (size : PathSize) (s 
       by_box : (o : Option ℕ) → v.hands.box_taken ≡ o → v.hands.box_taken ≡ None
       by_box None e = e
       by_box (Some b) e = let h = subst (λ ρ. HandsAs r.boxed.contents
-          (shown o size.at_open r.kept_to r.filed r.dropped r.core) r.boxed.pending r.boxed.progress r.core.append
-          size.seats v.part v.hands ρ) role (r.boxed.in_hands id v at) in
+          (shown o size.at_open r.kept_to r.filed r.dropped r.core) r.boxed.pending r.boxed.progress
+          r.core.append size.seats v.part v.hands ρ) role (r.boxed.in_hands id v at) in
           absurd (false≢true (subst (λ q. IsTrue (is_some q)) free (h.other b e).holds))

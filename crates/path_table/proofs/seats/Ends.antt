@@ -98,8 +98,8 @@ module _ {K : Type 0} (shows : K → Lasting) (o : Beside) where
       found y.0 (f.4 0 y.0 y.1) (y.2.desk refl)
     where
       found : (y : Slot K) → get_elem? xs 0 ≡ some y
-          → DeskIs shows y (shown o key.at_open f.1.0.kept_to f.1.0.filed f.1.0.dropped f.1.0.core) f.1.0.boxed.pending
-          f.1.0.boxed.progress → (keeper : K) × HasInFront keeper xs
+          → DeskIs shows y (shown o key.at_open f.1.0.kept_to f.1.0.filed f.1.0.dropped f.1.0.core)
+          f.1.0.boxed.pending f.1.0.boxed.progress → (keeper : K) × HasInFront keeper xs
           × (shows keeper ≡ shown o key.at_open f.1.0.kept_to f.1.0.filed f.1.0.dropped f.1.0.core)
       found (Notes kept) e d = absurd d
       found (Turn desk) e d = (desk.keeper, record { desk = desk; lies = refl; front = e }, d.0)
@@ -241,7 +241,8 @@ module _ {K : Type 0} (shows : K → Lasting) (o : Beside) where
           filing = subst (λ (z : PathSize). HasFiled o z r.core r.filed r.dropped) same r.filing;
           gone = dropped_at_home r.core key r.filed r.dropped r.filing
               (none_holds key id w v role all unheld.sync s r f.1.1);
-          lasting_is = kept ∙ ap (λ (z : PathSize). shown o z.at_open r.kept_to r.filed r.dropped r.core) same;
+          lasting_is = kept ∙ ap (λ (z : PathSize). shown o z.at_open r.kept_to r.filed r.dropped
+              r.core) same;
           risen = subst (λ (z : PathSize). 0 < r.core.stopped → HasRisen z.at_open r.core.stopped)
               same r.risen;
           each = one s r k (r.tells id v f.1.1);

@@ -16,8 +16,8 @@ returns-in-Err-outcome-clause-drills g c left left_now f h =
     let planned : ArePlanned c.drill_options-options.result.dump c.sizes_of-sizes.result flush ms
     c.in-Ok.made.0 =
     subst (λ (dump : Bool). ArePlanned dump c.sizes_of-sizes.result flush ms c.in-Ok.made.0)
-    (sym (ap (λ (a : ApplyOptions). a.dump) c.drill_options-options.ensures.are)) c.in-Ok.ensures.0 in
-    lines_refused ms (outside_with left left_now f h g.D.Disk g.C.Clock c.args.disk
+    (sym (ap (λ (a : ApplyOptions). a.dump) c.drill_options-options.ensures.are)) c.in-Ok.ensures.0
+    in lines_refused ms (outside_with left left_now f h g.D.Disk g.C.Clock c.args.disk
     c.apply_shares-disk.result.0 c.args.clock.now) c.drill_options-options.result
     c.apply_shares-disk.result.1 c.in-Err-outcome.status c.drill_options-options.ensures.are
     c.in-Err-outcome.is (c.apply_shares-disk.ensures.applies left left_now f h ms planned)
@@ -35,8 +35,8 @@ returns-in-Ok-outcome-clause-drills g c left left_now f h =
     let planned : ArePlanned c.drill_options-options.result.dump c.sizes_of-sizes.result flush ms
     c.in-Ok.made.0 =
     subst (λ (dump : Bool). ArePlanned dump c.sizes_of-sizes.result flush ms c.in-Ok.made.0)
-    (sym (ap (λ (a : ApplyOptions). a.dump) c.drill_options-options.ensures.are)) c.in-Ok.ensures.0 in
-    drilled ms (outside_with left left_now f h g.D.Disk g.C.Clock start now at) text
+    (sym (ap (λ (a : ApplyOptions). a.dump) c.drill_options-options.ensures.are)) c.in-Ok.ensures.0
+    in drilled ms (outside_with left left_now f h g.D.Disk g.C.Clock start now at) text
     (g.D.Disk.files then) (g.D.Disk.faults then) c.tell_folder-told.result
     (looked_behind g.D.Disk g.C.Clock left left_now f h start then now at
     c.apply_shares-disk.ensures.later still drill_options ms text

@@ -59,7 +59,8 @@ returns-in-Err-open-clause-applies g c left left_now f h ms planned =
     let options = c.args.options in
     let o = outside_with left left_now f h g.D.Disk g.C.Clock start now c.args.clock.now in
     let kept = keeps_all g.D.Disk g.C.Clock left left_now f h start looked c.args.clock.now
-    (c.disks_leave_now.ensures start) still now c.in-Err-open.ensures.told c.in-Err-open.ensures.keeps
+    (c.disks_leave_now.ensures start) still now c.in-Err-open.ensures.told
+    c.in-Err-open.ensures.keeps
     c.in-Err-open.ensures.others c.in-Err-open.ensures.any_moment c.in-Err-open.ensures.changes in
     subst (λ (s : Status). LinesRefuse options ms s o) (sym c.folder_status.ensures)
     (folder_refuses options ms (folder_status refusal) o
@@ -100,11 +101,11 @@ returns-clause-applies g c left left_now f h ms planned =
     (least_of outcome ms)
     (λ then files_are first is_first lasting.
     subst (λ (x : Bool). LeavesShares g.D.Disk.files g.D.Disk.changes g.D.Disk.moment
-    g.D.Disk.since g.D.Disk.leaves opened now (bytes_at then) base flushing x options.drain options.writers ms
-    (least_of outcome ms)) archives
+    g.D.Disk.since g.D.Disk.leaves opened now (bytes_at then) base flushing x options.drain
+    options.writers ms (least_of outcome ms)) archives
     (subst (λ (n : ℕ). LeavesShares g.D.Disk.files g.D.Disk.changes g.D.Disk.moment
-    g.D.Disk.since g.D.Disk.leaves opened now (bytes_at then) base flushing store.archives options.drain n ms
-    (least_of outcome ms)) writers
+    g.D.Disk.since g.D.Disk.leaves opened now (bytes_at then) base flushing store.archives
+    options.drain n ms (least_of outcome ms)) writers
     (done.shown ms then planned.plan files_are
     (subst (g.D.Disk.lasted_at opened) opening.began (opening.lasted first is_first lasting))))) in
     let has_written = wrote g.D.Disk g.C.Clock left left_now f h start looked at only still opened
@@ -115,8 +116,8 @@ returns-clause-applies g c left left_now f h ms planned =
     store.archives options.drain n ms) writers (done.wrote ms planned.plan)))
     done.told in
     let stays = others g.D.Disk g.C.Clock left left_now f h start looked at only still opened
-    c.now_ms-opened_ms.result base opening.opens opening.any_moment opening.recovers now done.told done.stay
-    in
+    c.now_ms-opened_ms.result base opening.opens opening.any_moment opening.recovers now done.told
+    done.stay in
     let could = could_open g.D.Disk g.C.Clock left left_now f h start looked at only still opened
     c.now_ms-opened_ms.result base opening.opens opening.any_moment opening.recovers now in
     shares_applied options o ms
@@ -143,8 +144,8 @@ returns-clause-applies g c left left_now f h ms planned =
         text = is;
       },
       turns_shares g.D.Disk g.C.Clock left left_now f h start looked at only still opened
-          c.now_ms-opened_ms.result base opening.opens opening.any_moment opening.recovers now options ms
-          receipts.items before report c.now_ms-opened_ms.ensures.told
+          c.now_ms-opened_ms.result base opening.opens opening.any_moment opening.recovers now
+          options ms receipts.items before report c.now_ms-opened_ms.ensures.told
           logged.long c.in-Ok.ensures.gives.restored is
           (λ then made files_are changes_are.
           ok_at outcome receipts _ is_ok

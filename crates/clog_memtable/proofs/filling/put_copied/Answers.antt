@@ -14,5 +14,6 @@ pub returns : goal.returns
 returns c = let copy = c.in_ok-copy_of.field-0 in let old = c.args.cells.now in
     let new = c.put_under.new.cells in let u = c.args.update in
     on_ok c.put_under.result _ _ c.put_under.ensures (λ step. subst (λ (key : List ℕ).
-    Adds (part_on c.args.table (pair_of key u ∷ [])) old new) (c.in_ok-copy_of.ensures ∙ c.as_str.ensures)
+    Adds (part_on c.args.table (pair_of key u ∷ [])) old new) (c.in_ok-copy_of.ensures
+    ∙ c.as_str.ensures)
     (one_more c.args.table old new (pair_of copy u) c.if-update-table.false step))

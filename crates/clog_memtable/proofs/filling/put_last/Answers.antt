@@ -9,4 +9,5 @@ returns-then-update-table c = nothing_more c.args.table c.args.cells.now
 
 pub returns : goal.returns
 returns c = on_ok c.put_under.result _ _ c.put_under.ensures (one_more c.args.table
-    c.args.cells.now c.put_under.new.cells (pair_of c.args.key c.args.update) c.if-update-table.false)
+    c.args.cells.now c.put_under.new.cells (pair_of c.args.key c.args.update)
+    c.if-update-table.false)

@@ -31,7 +31,8 @@ returns-then-note-above c = λ before G. let n = c.args.note.now in let w = c.re
     (gathered_more c.args.table before n c.args.cells.now cells G w))
 
 -- an entry that does not pass adds nothing
-none_more : (b : Bool) (n : EntryNote) (l : List EntryNote) → b ≡ false → l ≡ l ++ cond b (n ∷ []) []
+none_more : (b : Bool) (n : EntryNote) (l : List EntryNote) → b ≡ false → l ≡ l ++ cond b (n ∷ [])
+    []
 none_more true n l is = absurd (true≢false is)
 none_more false n l is = sym (append-nil l)
 

@@ -4,4 +4,5 @@ use Rattle.clog_mutation.proofs.checking.pass_updates.Given as goal
 
 abbrev pub invariant-loop : goal.invariant-loop
 invariant-loop l =
-    passed (updates_at l.end (l.count - l.counter) l.rest) ≡ passed (updates_at l.end l.count l.bytes)
+    passed (updates_at l.end (l.count - l.counter) l.rest) ≡ passed (updates_at l.end l.count
+    l.bytes)

@@ -30,8 +30,8 @@ returns-then-is_set-clause-why g c =
 
 pub returns-then-is_set-clause-rows : goal.returns-then-is_set-clause-rows
 returns-then-is_set-clause-rows g c =
-    subst (λ (f : WriteFault). MayLack (limit_of c.args.tally) (Some f)) (sym c.stopped_for_another.ensures)
-    (by_memory (limit_of c.args.tally))
+    subst (λ (f : WriteFault). MayLack (limit_of c.args.tally) (Some f))
+    (sym c.stopped_for_another.ensures) (by_memory (limit_of c.args.tally))
 
 pub returns-then-is_set-clause-waited : goal.returns-then-is_set-clause-waited
 returns-then-is_set-clause-waited g c = λ batch all.

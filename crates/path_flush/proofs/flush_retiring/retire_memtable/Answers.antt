@@ -83,8 +83,8 @@ file_memtable-requires-clause-awaits g c = let R = c.read_whole-member in
     let L = c.look_read_bound-bound in let d = L.ensures.step in let m = c.args.member in
     let z = R.result.0.number in let t = c.args.table.0 in
     let u = R.result.0.seat.me.0 in let x = L.new.member.seat.me.0 in
-    let seats = c.args.path.now.size.seats in let look = on_looked z t (bound_word (Final L.result)) c.args.table
-    c.args.memtable u x L.ensures.step in
+    let seats = c.args.path.now.size.seats in let look = on_looked z t (bound_word (Final L.result))
+    c.args.table c.args.memtable u x L.ensures.step in
     let G = subst (λ (k : Gathered). HasGathered seats c.args.table c.args.memtable k u.hands)
     c.in-Cells.is R.ensures.gathered in record {
       read = G.0;

@@ -9,7 +9,8 @@ use Rattle.path_table.proofs.bounds.last_bounds.Goals as goal
 
 pub loop-table-preserved : goal.loop-table-preserved
 loop-table-preserved g c = let l = c.loop-table in let i = l.table in
-    let words = slots_items c.args.closed.now.words in let keys = l.keys in let key = c.last_bound.result in
+    let words = slots_items c.args.closed.now.words in let keys = l.keys in
+    let key = c.last_bound.result in
     let long = l.invariant.0 in let inside = c.loop-table-test.true in (
       set_long keys i key ∙ long,
       (λ t low. dite (ℕ_discrete t i)

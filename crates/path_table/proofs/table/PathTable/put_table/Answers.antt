@@ -23,7 +23,8 @@ returns-clause-put g c = let m = c.args.member in let P = c.publish_on-done.ensu
     on_ok_with c.publish_on-done.result _ _ _ _ P.stopped (λ stops S.
     desk_filed g.K.Keeper.holds c.in-Turn.desk c.publish_on-done.new.desk m.seat.me c.requires.desk
     (c.slot_mut.ensures.value
-    ∙ ap (λ (y : Slot _). (desk_box, y) ∷ rest m.seat.me.1) c.in-Turn.is) P.same.0 P.same.1 (record {
+    ∙ ap (λ (y : Slot _). (desk_box, y) ∷ rest m.seat.me.1) c.in-Turn.is) P.same.0 P.same.1
+    (record {
       table = c.args.table.0;
       lower = c.args.lower.0;
       upper = c.args.upper.0;
@@ -36,8 +37,8 @@ returns-clause-refused g c = let m = c.args.member in let P = c.publish_on-done.
     let top = c.slot_mut.ensures.value
     ∙ ap (λ (y : Slot _). (desk_box, y) ∷ rest m.seat.me.1) c.in-Turn.is in
     let D = on_desk g.K.Keeper.holds c.in-Turn.desk m.seat.me c.requires.desk top in
-    on_err r _ _ P.refused (λ S. desk_refused g.K.Keeper.holds c.in-Turn.desk c.publish_on-done.new.desk
-    m.seat.me c.requires.desk top P.same.0 P.same.1 S.1
+    on_err r _ _ P.refused (λ S. desk_refused g.K.Keeper.holds c.in-Turn.desk
+    c.publish_on-done.new.desk m.seat.me c.requires.desk top P.same.0 P.same.1 S.1
     (stopped_by m.seat.me.0.hands.lasting.stopped r)
     (P.stopped ∙ ap (λ (l : Lasting). stopped_by l.stopped r) D.0) (record {
       table = c.args.table.0;
@@ -60,8 +61,8 @@ returns-clause-undropped g c = let m = c.args.member in let P = c.publish_on-don
     let top = c.slot_mut.ensures.value
     ∙ ap (λ (y : Slot _). (desk_box, y) ∷ rest m.seat.me.1) c.in-Turn.is in
     let D = on_desk g.K.Keeper.holds c.in-Turn.desk m.seat.me c.requires.desk top in
-    on_err r _ _ P.refused (λ S. desk_undropped g.K.Keeper.holds c.in-Turn.desk c.publish_on-done.new.desk
-    m.seat.me c.requires.desk top P.same.0 P.same.1 S.1
+    on_err r _ _ P.refused (λ S. desk_undropped g.K.Keeper.holds c.in-Turn.desk
+    c.publish_on-done.new.desk m.seat.me c.requires.desk top P.same.0 P.same.1 S.1
     (stopped_by m.seat.me.0.hands.lasting.stopped r)
     (P.stopped ∙ ap (λ (l : Lasting). stopped_by l.stopped r) D.0) (record {
       table = c.args.table.0;

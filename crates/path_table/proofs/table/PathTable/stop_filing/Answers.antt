@@ -21,7 +21,8 @@ store-requires g c = let t = c.args.self.now in let m = c.args.member.now in
       omega arith,
       halts_filing (shows_of g.K.Keeper.holds) o k t.table.shared.table_id.slots
           m.seat.id m.seat.me m.number m.role T.0.0 T.0.1 T.0.2 T.1
-          (ap (λ (z : PathSize). z.files) t.keyed ∙ c.requires.files) d.0 d.1 d.2 d.3 c.args.value c.requires.value d.4,
+          (ap (λ (z : PathSize). z.files) t.keyed ∙ c.requires.files) d.0 d.1 d.2 d.3 c.args.value
+          c.requires.value d.4,
     )
 
 pub invariant_of-member : goal.invariant_of-member

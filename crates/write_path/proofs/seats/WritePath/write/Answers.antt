@@ -51,7 +51,8 @@ returns-in-Ok-clause-written g c =
 
 pub returns-in-Err-clause-written : goal.returns-in-Err-clause-written
 returns-in-Err-clause-written g c =
-    let E = c.in-Err.ensures.claim in let A = c.append-appending in let S = c.start-begun.ensures.0 in
+    let E = c.in-Err.ensures.claim in let A = c.append-appending in let S = c.start-begun.ensures.0
+    in
     let L = c.leave.ensures in let size = c.args.self.now.table.size in
     let before = c.args.seat.member.seat.me.0.trail in
     let begun = c.start-begun.result.member.seat.me.0.trail in
