@@ -1,1 +1,2 @@
+pub mod CountWords
 pub mod Finished

@@ -1,3 +1,4 @@
 pub mod Chains
 pub mod ChainFields
+pub mod CountWords
 pub mod Tallies

@@ -12,4 +12,5 @@ pub mod Closes
 pub mod KeepsOrders
 pub mod NobodyAbove
 pub mod GroupsMove
+pub mod KeepsFew
 pub mod KeepsSwitchHolders

@@ -13,3 +13,5 @@ pub mod SeatPlaced
 pub mod KeepsOnce
 pub mod HoldsInterval
 pub mod AtRest
+pub mod LaterTries
+pub mod NearTries

@@ -21,3 +21,4 @@ pub mod KeepsStages
 pub mod BarrierTells
 pub mod EqualParts
 pub mod StageTells
+pub mod ClearedLeft

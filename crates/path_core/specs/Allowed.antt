@@ -7,6 +7,7 @@ use Rattle.std.specs.Prelude.{
   ◌≢◌,
   ℕ,
   suc,
+  ◌+◌,
   ◌-◌,
   ◌^◌,
   ◌<◌,
@@ -55,7 +56,7 @@ use Rattle.path_core.specs.declared.event.Event.TheVariants.{
   Put,
 }
 use Rattle.path_core.specs.declared.event.Place.TheVariants.{Count, Bound, CursorWord}
-use Rattle.path_core.specs.declared.event.SwitchPart.TheVariants.{Open, Mark}
+use Rattle.path_core.specs.declared.event.SwitchPart.TheVariants.{Clear, Open, Mark}
 use Rattle.path_core.specs.declared.event.Turn.{Turn}
 use Rattle.path_core.specs.declared.event.Turn.TheVariants.{Sync, Flush}
 use Rattle.path_core.specs.declared.note.EntryNote.{EntryNote}
@@ -78,6 +79,7 @@ use Rattle.path_core.specs.Parts.{
   found_of,
   issue_of,
   marked_of,
+  cleared_of,
   is_marker,
   is_entry,
   touches,
@@ -101,6 +103,7 @@ IsThere x (MoveCurrent by order group) = IsPlace x (Count order group)
 IsThere x (Expire by order group) = IsPlace x (Count order group)
 IsThere x (Advance by order group) = IsPlace x (Count order group)
 IsThere x (Claim by from to what) = Unit {0}
+IsThere x (Switch by table memtable Clear) = table.0 < length x.tables
 IsThere x (Switch by table memtable Open) = table.0 < length x.tables
 IsThere x (Switch by table memtable Mark) = IsPlace x (Bound table memtable)
 IsThere x (Raise by table memtable to) = IsPlace x (Bound table memtable)
@@ -211,11 +214,13 @@ pub record MayFile (x : PathState) (by t m : ℕ) : Type 0 where
   pub final : (memtable_of x t m).bound ≡ Final (record { 0 = bound })
   pub lasting : bound ≤ after x.capacity x.synced
 
--- OpenGroup: the holder of the Sync turn, while no barrier is being issued, makes the next group.
+-- OpenGroup: the holder of the Sync turn, while no barrier is being issued, makes the next group,
+-- where a word is free for it: of 32 groups that follow one another each has its own.
 abbrev pub MayOpenGroup : PathState → ℕ → Order → ℕ → Type 0
 MayOpenGroup x by order group =
     let s = seat_of x by in
     HoldsTurn s Sync × (issue_of s ≡ Rest) × (group ≡ suc (groups_of x order).current)
+    × (group ≤ (groups_of x order).oldest + 31)
 
 -- The row of the step's kind.
 abbrev pub Row : PathState → Event → Type 0
@@ -244,9 +249,13 @@ Row x (Claim by from to Entry) =
 Row x (Claim by from to Marker) =
     HoldsTurn (seat_of x by) Sync × IsTrue (is_entry_last x) × (from.0 ≡ x.log)
     × MovesLog Marker x.capacity x.ordinals from.0 to.0
+Row x (Switch by table memtable Clear) =
+    let t = table_of x table.0 in
+    HoldsTurn (seat_of x by) (Flush table) × (t.oldest_live ≡ t.newest) × (memtable ≡ suc t.newest)
 Row x (Switch by table memtable Open) =
     let t = table_of x table.0 in
     HoldsTurn (seat_of x by) (Flush table) × (t.oldest_live ≡ t.newest) × (memtable ≡ suc t.newest)
+    × (cleared_of (seat_of x by) table.0 ≡ Some memtable)
 Row x (Switch by table memtable Mark) =
     HoldsTurn (seat_of x by) (Flush table) × (suc memtable ≡ (table_of x table.0).newest)
     × ((memtable_of x table.0 memtable).bound ≡ Live)

@@ -22,8 +22,8 @@ use Rattle.path_core.specs.declared.event.Event.TheVariants.{
 }
 use Rattle.path_core.specs.declared.event.Reading.{Reading}
 use Rattle.path_core.specs.declared.event.Reading.TheVariants.{Operations, Number, Limit}
-use Rattle.path_core.specs.declared.event.SwitchPart.TheVariants.{Open, Mark}
-use Rattle.path_core.specs.declared.state.Bound.TheVariants.{Raising}
+use Rattle.path_core.specs.declared.event.SwitchPart.TheVariants.{Clear, Open, Mark}
+use Rattle.path_core.specs.declared.state.Bound.TheVariants.{Live, Raising}
 use Rattle.path_core.specs.declared.state.PathState.{PathState}
 use Rattle.path_core.specs.SeatParts.{raised_to, made_final}
 
@@ -41,6 +41,7 @@ left_by (Expire by order group) (Operations k) = Operations (expired k)
 left_by (Expire by order group) found = found
 left_by (Advance by order group) found = Number group
 left_by (Claim by from to what) found = Number to.0
+left_by (Switch by table memtable Clear) found = Limit Live
 left_by (Switch by table memtable Open) found = Number memtable
 left_by (Switch by table memtable Mark) found = Limit (Raising (record { 0 = 0 }))
 left_by (Raise by table memtable to) (Limit b) = Limit (raised_to to.0 b)

@@ -13,7 +13,7 @@ use Rattle.path_core.specs.LawfulLog.{
   SyncedIsMarker,
   DroppedWas,
 }
-use Rattle.path_core.specs.LawfulOrders.{IsOrderly, SwitchesHeld}
+use Rattle.path_core.specs.LawfulOrders.{GroupsAreFew, IsOrderly, SwitchesHeld}
 use Rattle.path_core.specs.LawfulTables.{
   SwitchesAre,
   LaterGroupsAbove,
@@ -27,6 +27,7 @@ use Rattle.path_core.specs.LawfulPlaces.{
   PlacesAre,
   PlacedOnce,
   ClosedIsPlaced,
+  LaterTries,
   RunningAreUnplaced,
 }
 use Rattle.path_core.specs.LawfulSeats.{SeatKnows}
@@ -64,6 +65,9 @@ pub record IsLawfulPlacing (x : PathState) : Type 0 where
 pub record IsLawfulLogged (x : PathState) : Type 0 where
   pub placing : IsLawfulPlacing x
   pub barriers_below_current : BarriersBelow x
+  pub groups_are_few : GroupsAreFew x
+  -- writes of the groups behind a memtable's barrier try it, or a later one
+  pub no_try_below_the_grace : LaterTries x
   pub a_switch_has_a_holder : SwitchesHeld x
   -- writes of the groups behind a marker's barrier are logged above the marker
   pub later_groups_log_above : LaterGroupsAbove x
@@ -103,6 +107,8 @@ pub record IsLawfulPath (x : PathState) : Type 0 where
   pub places : PlacesAre x
   -- each entry has at most one place at a table, those of running writes among them
   pub placed_once : PlacedOnce x
+  -- writes of the groups behind a memtable's barrier try it, or a later one
+  pub no_try_below_the_grace : LaterTries x
   -- writes of the groups behind a marker's barrier are logged above the marker
   pub later_groups_log_above : LaterGroupsAbove x
   -- a retired memtable is final, its barrier is passed, and what was placed in it is in its file;
@@ -123,6 +129,8 @@ pub record IsLawfulPath (x : PathState) : Type 0 where
   pub synced_below_the_log : SyncedIsMarker x
   -- the groups of barriers are below the current one
   pub barriers_below_current : BarriersBelow x
+  -- from the oldest group of an order on at most 32 were made
+  pub groups_are_few : GroupsAreFew x
   -- a table's last file ends at or below the bound of its last retired memtable
   pub last_file_is_retired : LastFiles x
   -- a file begins at or below the log interval of its memtable

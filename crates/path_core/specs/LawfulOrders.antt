@@ -1,19 +1,6 @@
 -- What is true of the groups of an order in each state, and of the turns.
-use Rattle.std.specs.Prelude.{
-  ◌≡◌,
-  ℕ,
-  suc,
-  ◌<◌,
-  ◌≤◌,
-  Bool,
-  ◌⊎◌,
-  List,
-  length,
-  get_or,
-  Some,
-  None,
-  IsSome,
-}
+use Rattle.std.specs.Prelude.{◌≡◌, ℕ, suc, ◌+◌, ◌<◌, ◌≤◌, Bool, ◌⊎◌, List, length, get_or, Some}
+use Rattle.std.specs.Prelude.{None, IsSome}
 use Rattle.std.specs.List.{count_by}
 use Rattle.op_core.specs.declared.count.Order.{Order}
 use Rattle.op_core.specs.declared.count.Order.TheVariants.{Write, Append}
@@ -28,16 +15,8 @@ use Rattle.path_core.specs.declared.seat.Seat.{Seat}
 use Rattle.path_core.specs.declared.seat.SyncTurn.{SyncTurn}
 use Rattle.path_core.specs.declared.state.OrderGroups.{OrderGroups}
 use Rattle.path_core.specs.declared.state.PathState.{PathState}
-use Rattle.path_core.specs.Parts.{
-  fresh_seat,
-  groups_of,
-  seat_of,
-  seat_table,
-  group_in,
-  found_of,
-  is_at,
-  HoldsTurn,
-}
+use Rattle.path_core.specs.Parts.{fresh_seat, groups_of, seat_of, seat_table, group_in, found_of}
+use Rattle.path_core.specs.Parts.{is_at, HoldsTurn}
 use Rattle.path_core.specs.Allowed.{IsSettled}
 
 abbrev pub seat_in : List Seat → ℕ → Seat
@@ -88,6 +67,12 @@ pub record MadeOf (issue : Issue) (order : Order) (groups : OrderGroups) (seats 
 
 abbrev pub GroupsMade : Issue → PathState → Order → Type 0
 GroupsMade issue x order = MadeOf issue order (groups_of x order) x.seats
+
+-- Of an order at most 32 groups were made from the oldest on, so that each of them may have one of
+-- 32 words for itself.
+abbrev pub GroupsAreFew : PathState → Type 0
+GroupsAreFew x =
+    (order : Order) → length (groups_of x order).tallies ≤ (groups_of x order).oldest + 32
 
 -- Each turn has at most one holder, and an issue that is unfinished has one.
 pub record TurnsHeld (issue : Issue) (seats : List Seat) : Type 0 where

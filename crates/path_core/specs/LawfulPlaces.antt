@@ -130,6 +130,12 @@ pub record PlacesAre (x : PathState) : Type 0 where
   pub closed : (n : EntryNote) (t : ℕ) → Contains x.notes n → IsClosed x n
       → IsTrue (touches n.tables t) → HasPlace x t n.end.0
 
+-- Writes of the groups behind a memtable's barrier try it, or a later one: so once that barrier is
+-- passed, no write tries a memtable below.
+abbrev pub LaterTries : PathState → Type 0
+LaterTries x = (t m g h w k : ℕ) → (memtable_of x t m).barrier ≡ Some g
+    → (seat_of x w).write ≡ Some h → g < h → (seat_table (seat_of x w) t).trying ≡ Some k → m ≤ k
+
 -- The entry of a position has exactly one place at a table.
 abbrev pub HasOnePlace : PathState → ℕ → ℕ → Type 0
 HasOnePlace x t entry = count_by (is_placing t entry) x.placed ≡ 1

@@ -126,6 +126,8 @@ pub record FlushExact (x : PathState) (t : ℕ) (turn : FlushTurn) : Type 0 wher
   pub oldest_live : (n : ℕ) → turn.oldest_live ≡ Some n → n ≡ (table_of x t).oldest_live
   pub bound : (found : FoundBound) → turn.bound ≡ Some found
       → BoundExact found.bound (memtable_of x t found.memtable).bound
+  -- the place is cleared for the memtable to come
+  pub cleared : (m : ℕ) → turn.cleared ≡ Some m → m ≡ suc (table_of x t).newest
   pub stage : StageIs x t turn.stage
 
 -- What a seat knows.

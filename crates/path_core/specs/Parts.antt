@@ -159,6 +159,10 @@ marked_in (WithBarrier m group) = None
 abbrev pub marked_of : Seat → ℕ → Option Marked
 marked_of s t = option_and_then (λ (turn : FlushTurn). marked_in turn.stage) (seat_table s t).flush
 
+-- the memtable to come whose place the holder of a table's turn has cleared
+abbrev pub cleared_of : Seat → ℕ → Option ℕ
+cleared_of s t = option_and_then (λ (turn : FlushTurn). turn.cleared) (seat_table s t).flush
+
 -- Asking a part.
 
 abbrev pub is_at : Option ℕ → ℕ → Bool

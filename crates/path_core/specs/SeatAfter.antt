@@ -57,7 +57,7 @@ use Rattle.path_core.specs.declared.event.Place.TheVariants.{
 }
 use Rattle.path_core.specs.declared.event.Reading.{Reading}
 use Rattle.path_core.specs.declared.event.Reading.TheVariants.{Operations, Number, Limit}
-use Rattle.path_core.specs.declared.event.SwitchPart.TheVariants.{Open as OpenPart, Mark}
+use Rattle.path_core.specs.declared.event.SwitchPart.TheVariants.{Clear, Open as OpenPart, Mark}
 use Rattle.path_core.specs.declared.event.Turn.TheVariants.{Sync, Flush}
 use Rattle.path_core.specs.declared.seat.FlushTurn.{FlushTurn}
 use Rattle.path_core.specs.declared.seat.Issue.TheVariants.{Rest, Opened, Moved}
@@ -220,7 +220,22 @@ new_sync marker = record {
 }
 
 abbrev pub new_flush : FlushTurn
-new_flush = record { stage = Settled; newest = None; oldest_live = None; bound = None }
+new_flush = record {
+  stage = Settled;
+  newest = None;
+  oldest_live = None;
+  bound = None;
+  cleared = None;
+}
+
+-- The place of the memtable to come is cleared, and then this memtable is made.
+
+abbrev pub place_cleared : ℕ → SeatTable → SeatTable
+place_cleared m st = in_flush (λ (turn : FlushTurn). record turn { cleared = Some m }) st
+
+abbrev pub newest_made : ℕ → SeatTable → SeatTable
+newest_made m st =
+    in_flush (λ (turn : FlushTurn). record turn { newest = Some m; cleared = None }) st
 
 -- the number that stood at a place, 0 where that is no number
 abbrev pub number_read : Reading → ℕ
@@ -245,9 +260,10 @@ seat_after s (Claim by from to Entry) found told =
 seat_after s (Claim by from to Marker) found told =
     in_sync (marker_claimed by (claim_start Marker from.0 to.0))
     (record s { found = record s.found { log = Some to.0 }; marker_waits = true })
+seat_after s (Switch by table memtable Clear) found told =
+    at_table table.0 (place_cleared memtable) s
 seat_after s (Switch by table memtable OpenPart) found told =
-    at_table table.0 (λ (st : SeatTable). reaches (Begun memtable)
-    (in_flush (λ (turn : FlushTurn). record turn { newest = Some memtable }) st)) s
+    at_table table.0 (λ (st : SeatTable). reaches (Begun memtable) (newest_made memtable st)) s
 seat_after s (Switch by table memtable Mark) found told =
     at_table table.0 (λ (st : SeatTable).
     reaches (MarkedStage (record { memtable = memtable; key = None; raised = false }))

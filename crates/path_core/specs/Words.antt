@@ -32,7 +32,7 @@ use Rattle.path_core.specs.declared.event.Place.TheVariants.{
 }
 use Rattle.path_core.specs.declared.event.Reading.{Reading}
 use Rattle.path_core.specs.declared.event.Reading.TheVariants.{Operations, Number, Limit}
-use Rattle.path_core.specs.declared.event.SwitchPart.TheVariants.{Open, Mark}
+use Rattle.path_core.specs.declared.event.SwitchPart.TheVariants.{Clear, Open, Mark}
 use Rattle.path_core.specs.declared.event.Turn.{Turn}
 use Rattle.path_core.specs.declared.event.Turn.TheVariants.{Sync, Flush}
 use Rattle.path_core.specs.declared.seat.Seat.{Seat}
@@ -98,6 +98,7 @@ place_of (MoveCurrent by order group) = Current order
 place_of (Expire by order group) = Count order group
 place_of (Advance by order group) = Oldest order
 place_of (Claim by from to what) = Log
+place_of (Switch by table memtable Clear) = Bound table memtable
 place_of (Switch by table memtable Open) = Newest table
 place_of (Switch by table memtable Mark) = Bound table memtable
 place_of (Raise by table memtable to) = Bound table memtable

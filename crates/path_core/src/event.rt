@@ -65,9 +65,11 @@ pub enum ClaimKind {
     Marker,
 }
 
-/// Which half of a switch a step makes.
+/// Which part of a switch a step makes.
 #[derive(Clone, Copy, Debug, PartialEq, Eq)]
 pub enum SwitchPart {
+    /// Clears the place of the new memtable's bound, which an older one had.
+    Clear,
     /// Makes the new memtable the newest.
     Open,
     /// Makes the old one raising, from key 0.
@@ -162,15 +164,15 @@ pub enum Event {
         /// What the range is for.
         what: ClaimKind,
     },
-    /// It makes one half of the switch of a table to a new memtable.
+    /// It makes one part of the switch of a table to a new memtable.
     Switch {
         /// The seat that makes it.
         by: u8,
         /// The table.
         table: Table,
-        /// The memtable that is opened or marked.
+        /// The memtable that is opened or marked, or whose place is cleared.
         memtable: u64,
-        /// Which half.
+        /// Which part.
         part: SwitchPart,
     },
     /// It raises the bound of a memtable to a key, where that is greater.

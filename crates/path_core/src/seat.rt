@@ -131,6 +131,8 @@ pub struct FlushTurn {
     pub oldest_live: Option<u64>,
     /// The bound that it last found or put.
     pub bound: Option<FoundBound>,
+    /// The memtable to come, once its place is cleared for it.
+    pub cleared: Option<u64>,
 }
 
 /// What a seat does at one table.

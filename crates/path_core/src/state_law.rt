@@ -1,12 +1,13 @@
 //! What holds in each lawful state, for whoever has the law of a state and no list of the steps
 //! that led to it. Nothing here runs; each function's contract is a promise of the path.
-ghost use Rattle.std.specs.Prelude.{◌≡◌, ℕ, suc, ◌<◌, ◌≤◌, length, Some, IsTrue};
+ghost use Rattle.std.specs.Prelude.{◌≡◌, ℕ, suc, ◌+◌, ◌<◌, ◌≤◌, length, Some, IsTrue};
 ghost use Rattle.std.specs.List.{Contains};
 ghost use Rattle.clog_base.specs.declared.cell.Table.{Table};
 ghost use Rattle.op_core.specs.declared.count.Order.{Order};
+ghost use Rattle.op_core.specs.declared.count.Tally.TheVariants.{Expired};
 ghost use Rattle.op_core.specs.Tallies.{IsOpen, IsPassed, running_of};
 ghost use Rattle.path_core.specs.declared.event.Event.TheVariants.{OpenGroup, Switch};
-ghost use Rattle.path_core.specs.declared.event.SwitchPart.TheVariants.{Open};
+ghost use Rattle.path_core.specs.declared.event.SwitchPart.TheVariants.{Clear, Open};
 ghost use Rattle.path_core.specs.declared.event.Turn.{Turn};
 ghost use Rattle.path_core.specs.declared.seat.Issue.TheVariants.{Rest};
 ghost use Rattle.path_core.specs.declared.state.Claim.{Claim};
@@ -16,6 +17,7 @@ ghost use Rattle.path_core.specs.Parts.{
   groups_of,
   tally_of,
   seat_of,
+  seat_table,
   table_of,
   group_in,
   issue_of,
@@ -74,4 +76,30 @@ pub fn up_to_a_passed_marker_all_is_deposited()
     ensures { (x : PathState) (key : ℕ) (c : Claim) → IsLawfulPath x
         → HasPassedMarker x.claims x.append.tallies key → Contains x.claims c
         → IsTrue (is_entry c) → c.end ≤ key → IsDeposited x c }
+{}
+
+/// A write tries one of the last three memtables of a table: so of an older one no word need tell.
+pub fn a_write_tries_one_of_the_last_three()
+    ensures { (x : PathState) (w t k : ℕ) → IsLawfulPath x
+        → (seat_table (seat_of x w) t).trying ≡ Some k → (table_of x t).newest ≤ k + 2 }
+{}
+
+/// Where a memtable's place is cleared, and where the memtable is opened, no write tries one that
+/// is three below it, or more.
+pub fn the_place_of_a_new_memtable_is_free()
+    ensures cleared { (x : PathState) (by n w k : ℕ) (table : Table) → IsLawfulPath x
+        → IsStep x (Switch by table n Clear)
+        → (seat_table (seat_of x w) table.0).trying ≡ Some k → n ≤ k + 2 }
+    ensures opened { (x : PathState) (by n w k : ℕ) (table : Table) → IsLawfulPath x
+        → IsStep x (Switch by table n Open)
+        → (seat_table (seat_of x w) table.0).trying ≡ Some k → n ≤ k + 2 }
+{}
+
+/// Where a group is made, one that is 32 below it, or more, is finished, and nobody is in it.
+pub fn the_word_of_a_new_group_is_free()
+    ensures finished { (x : PathState) (by g h : ℕ) (order : Order) → IsLawfulPath x
+        → IsStep x (OpenGroup by order g) → h + 32 ≤ g → tally_of x order h ≡ Expired 0 }
+    ensures left { (x : PathState) (by g h w : ℕ) (order : Order) → IsLawfulPath x
+        → IsStep x (OpenGroup by order g) → h + 32 ≤ g
+        → group_in order (seat_of x w) ≡ Some h → ⊥ }
 {}

@@ -39,7 +39,7 @@ use Rattle.path_core.specs.declared.event.Event.TheVariants.{
   GiveTurn,
   Put,
 }
-use Rattle.path_core.specs.declared.event.SwitchPart.TheVariants.{Open, Mark}
+use Rattle.path_core.specs.declared.event.SwitchPart.TheVariants.{Clear, Open, Mark}
 use Rattle.path_core.specs.declared.event.Turn.TheVariants.{Sync, Flush}
 use Rattle.path_core.specs.declared.note.EntryNote.{EntryNote}
 use Rattle.path_core.specs.declared.state.PathState.{PathState}
@@ -87,6 +87,7 @@ MayWantMemory x (MoveCurrent by order group) = ⊥
 MayWantMemory x (Expire by order group) = ⊥
 MayWantMemory x (Advance by order group) = ⊥
 MayWantMemory x (Claim by from to what) = Unit {0}
+MayWantMemory x (Switch by table memtable Clear) = ⊥
 MayWantMemory x (Switch by table memtable Open) = Unit {0}
 MayWantMemory x (Switch by table memtable Mark) = ⊥
 MayWantMemory x (Raise by table memtable to) = ⊥

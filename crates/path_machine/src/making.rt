@@ -11,7 +11,7 @@ use crate::file_changes::make_retire;
 use crate::group_changes::{make_advance, make_expire, make_look, make_open_group, make_register};
 use crate::log_changes::{make_claim, make_synced};
 use crate::move_changes::{make_move_append, make_move_write};
-use crate::table_changes::{make_final, make_mark, make_open, make_raise};
+use crate::table_changes::{make_clear, make_final, make_mark, make_open, make_raise};
 use crate::turn_changes::{make_give_flush, make_stopped, make_take_turn};
 use clog_base::{OutOfMemory, Table};
 use op_core::Order;
@@ -57,6 +57,10 @@ fn make_switch(
     ensures { Makes result state.old state.new (Event.Switch by table memtable part) }
 {
     match part {
+        SwitchPart::Clear => {
+            make_clear(state, by, table, memtable);
+            Ok(())
+        }
         SwitchPart::Open => make_open(state, by, table, memtable),
         SwitchPart::Mark => {
             make_mark(state, by, table, memtable);

@@ -42,7 +42,7 @@ pub(crate) fn is_there(state: &PathState, event: &Event) -> bool
         Event::OpenGroup { .. } | Event::Claim { .. } => true,
         Event::Switch {
             table,
-            part: SwitchPart::Open,
+            part: SwitchPart::Clear | SwitchPart::Open,
             ..
         } => { is_place(state, Place::Newest(*table)) }
         Event::Switch {

@@ -1,5 +1,5 @@
 //! When steps on groups are allowed.
-ghost use Rattle.std.specs.Prelude.{◌≡◌, ◌↔◌, ◌≤◌, ◌<◌, suc, length, Some, IsTrue};
+ghost use Rattle.std.specs.Prelude.{◌≡◌, ◌↔◌, ◌≤◌, ◌<◌, ◌+◌, suc, length, Some, IsTrue};
 ghost use Rattle.std.specs.List.{list_any};
 ghost use Rattle.op_core.specs.declared.count.Tally.{Tally};
 ghost use Rattle.op_core.specs.Tallies.{IsOpen};
@@ -48,6 +48,13 @@ pub(crate) fn follows(number: u64, other: u64) -> bool
     ensures { IsTrue result ↔ (number ≡ suc other) }
 {
     number > 0 && number - 1 == other
+}
+
+// Whether a group is one of the 32 from the oldest on.
+fn is_near(group: u64, oldest: u64) -> bool
+    ensures { IsTrue result ↔ (group ≤ oldest + 31) }
+{
+    group.saturating_sub(31) <= oldest
 }
 
 pub(crate) fn allows_register(state: &PathState, seat: &Seat, order: Order, group: u64) -> bool
@@ -130,6 +137,7 @@ pub(crate) fn allows_open_group(
     seat.sync.is_some()
         && issue_of(seat) == Issue::Rest
         && follows(group, groups(state, order).current)
+        && is_near(group, groups(state, order).oldest)
         && wants_barrier(state, by, seat, order)
 }
 

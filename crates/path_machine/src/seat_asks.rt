@@ -5,6 +5,7 @@ ghost use Rattle.path_core.specs.Parts.{
   group_in,
   found_of,
   issue_of,
+  cleared_of,
   marked_in,
   marked_of,
   HoldsNoTurn,
@@ -53,6 +54,17 @@ pub(crate) fn issue_of(seat: &Seat) -> Issue
     match seat.sync {
         Some(turn) => turn.issue,
         None => Issue::Rest,
+    }
+}
+
+/// The memtable to come of a table, once the seat has cleared its place.
+pub(crate) fn cleared_of(seat: &Seat, table: u8) -> Option<u64>
+    requires { table < 16 }
+    ensures { result ≡ cleared_of seat.now table }
+{
+    match seat.tables[table as usize].flush {
+        Some(turn) => turn.cleared,
+        None => None,
     }
 }
 

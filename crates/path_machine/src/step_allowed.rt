@@ -12,7 +12,7 @@ use crate::order_allowed::{
     allows_advance, allows_close, allows_expire, allows_move, allows_open_group, allows_register,
 };
 use crate::seat_asks::has_raised;
-use crate::table_allowed::{allows_mark, allows_open, allows_raise};
+use crate::table_allowed::{allows_clear, allows_mark, allows_open, allows_raise};
 use crate::turn_allowed::{allows_give, allows_take};
 use path_core::{ClaimKind, Cursor, Event, PathState, Seat, SwitchPart};
 
@@ -54,6 +54,12 @@ fn row(state: &PathState, by: u8, seat: &Seat, event: &Event) -> bool
             what: ClaimKind::Marker,
             ..
         } => { allows_marker(state, seat, *from, *to) }
+        Event::Switch {
+            table,
+            memtable,
+            part: SwitchPart::Clear,
+            ..
+        } => { allows_clear(state, seat, *table, *memtable) }
         Event::Switch {
             table,
             memtable,

@@ -1,16 +1,16 @@
 //! When steps on memtables are allowed.
-ghost use Rattle.std.specs.Prelude.{◌≡◌, ◌≢◌, ◌↔◌, ◌⊎◌, ◌≤◌, ◌<◌, suc, length, IsTrue};
+ghost use Rattle.std.specs.Prelude.{◌≡◌, ◌≢◌, ◌↔◌, ◌⊎◌, ◌≤◌, ◌<◌, suc, length, Some, IsTrue};
 ghost use Rattle.path_core.specs.declared.event.Turn.{Turn};
-ghost use Rattle.path_core.specs.Parts.{table_of, memtable_of, HoldsTurn};
+ghost use Rattle.path_core.specs.Parts.{cleared_of, table_of, memtable_of, HoldsTurn};
 ghost use Rattle.path_core.specs.Allowed.{RaisesAsWriter, RaisesAsHolder};
 
 use crate::order_allowed::follows;
 use crate::reading::holds;
-use crate::seat_asks::may_raise;
+use crate::seat_asks::{cleared_of, may_raise};
 use clog_base::{Key, Table};
 use path_core::{Bound, PathState, Seat, Turn};
 
-pub(crate) fn allows_open(state: &PathState, seat: &Seat, table: Table, memtable: u64) -> bool
+pub(crate) fn allows_clear(state: &PathState, seat: &Seat, table: Table, memtable: u64) -> bool
     requires few { length state.now.tables ≤ 16 }
     requires table { table.0 < length state.now.tables }
     ensures { let t = table_of state.now table.0 in
@@ -21,6 +21,20 @@ pub(crate) fn allows_open(state: &PathState, seat: &Seat, table: Table, memtable
     holds(seat, Turn::Flush(table))
         && found.oldest_live == found.newest
         && follows(memtable, found.newest)
+}
+
+pub(crate) fn allows_open(state: &PathState, seat: &Seat, table: Table, memtable: u64) -> bool
+    requires few { length state.now.tables ≤ 16 }
+    requires table { table.0 < length state.now.tables }
+    ensures { let t = table_of state.now table.0 in
+        IsTrue result ↔ (HoldsTurn seat.now (Turn.Flush table) × (t.oldest_live ≡ t.newest)
+        × (memtable ≡ suc t.newest) × (cleared_of seat.now table.0 ≡ Some memtable)) }
+{
+    let found = &state.tables.as_slice()[table.0 as usize];
+    holds(seat, Turn::Flush(table))
+        && found.oldest_live == found.newest
+        && follows(memtable, found.newest)
+        && cleared_of(seat, table.0) == Some(memtable)
 }
 
 fn bound_of(state: &PathState, table: Table, memtable: u64) -> Bound

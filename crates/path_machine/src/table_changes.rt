@@ -6,7 +6,9 @@ ghost use Rattle.path_core.specs.Next.{next_of};
 ghost use Rattle.path_machine.specs.Steps.{Names, Makes};
 
 use crate::bound::{finalised, raised};
-use crate::table_steps::{bound_found, newest_found, raised_as_holder, raised_as_writer, reaches};
+use crate::table_steps::{
+    bound_found, newest_made, place_cleared, raised_as_holder, raised_as_writer, reaches,
+};
 use clog_base::{Key, OutOfMemory, Table};
 use path_core::{Bound, Marked, Memtable, PathState, SwitchPart, Switching, TableState};
 
@@ -35,6 +37,16 @@ fn put_memtable(table: &mut TableState, memtable: u64, changed: Memtable)
     list.items[memtable as usize] = changed;
 }
 
+pub(crate) fn make_clear(state: &mut PathState, by: u8, table: Table, memtable: u64)
+    requires { Names state.old (Event.Switch by table memtable SwitchPart.Clear) }
+    ensures { state.new ≡ next_of state.old (Event.Switch by table memtable SwitchPart.Clear) }
+{
+    let seats = &mut state.seats;
+    let seat = &mut seats.items[by as usize];
+    let i = table.0 as usize;
+    seat.tables[i] = place_cleared(seat.tables[i], memtable);
+}
+
 pub(crate) fn make_open(
     state: &mut PathState,
     by: u8,
@@ -52,7 +64,7 @@ pub(crate) fn make_open(
     let seats = &mut state.seats;
     let seat = &mut seats.items[by as usize];
     let i = table.0 as usize;
-    let at = newest_found(seat.tables[i], memtable);
+    let at = newest_made(seat.tables[i], memtable);
     seat.tables[i] = reaches(at, Switching::Begun(memtable));
     Ok(())
 }

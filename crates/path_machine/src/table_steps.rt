@@ -17,12 +17,14 @@ ghost use Rattle.path_core.specs.SeatAfter.{
   raised_as_writer,
   raised_stage,
   raised_as_holder,
+  place_cleared,
+  newest_made,
 };
 
 use crate::bound::{ends_below, rises, takes};
 use path_core::{Bound, FlushTurn, FoundBound, Marked, SeatTable, Switching};
 
-/// The holder of the table's turn found the newest memtable, or made it.
+/// The holder of the table's turn found the newest memtable.
 pub(crate) fn newest_found(at: SeatTable, newest: u64) -> SeatTable
     ensures { result ≡ in_flush (λ (turn : FlushTurn). record turn { newest = Some newest }) at }
 {
@@ -30,6 +32,39 @@ pub(crate) fn newest_found(at: SeatTable, newest: u64) -> SeatTable
         Some(turn) => SeatTable {
             flush: Some(FlushTurn {
                 newest: Some(newest),
+                ..turn
+            }),
+            ..at
+        },
+        None => at,
+    }
+}
+
+/// It cleared the place of the memtable to come.
+pub(crate) fn place_cleared(at: SeatTable, memtable: u64) -> SeatTable
+    ensures { result ≡ place_cleared memtable at }
+{
+    match at.flush {
+        Some(turn) => SeatTable {
+            flush: Some(FlushTurn {
+                cleared: Some(memtable),
+                ..turn
+            }),
+            ..at
+        },
+        None => at,
+    }
+}
+
+/// It made that memtable, which is the newest.
+pub(crate) fn newest_made(at: SeatTable, newest: u64) -> SeatTable
+    ensures { result ≡ newest_made newest at }
+{
+    match at.flush {
+        Some(turn) => SeatTable {
+            flush: Some(FlushTurn {
+                newest: Some(newest),
+                cleared: None,
                 ..turn
             }),
             ..at

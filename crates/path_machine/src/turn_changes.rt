@@ -40,6 +40,7 @@ const NEW_FLUSH: FlushTurn = FlushTurn {
     newest: None,
     oldest_live: None,
     bound: None,
+    cleared: None,
 };
 
 fn with_flush(at: SeatTable, flush: Option<FlushTurn>) -> SeatTable

@@ -86,6 +86,7 @@ fn show_at_table<W: Write>(out: &mut W, part: &SeatTable) -> io::Result<()> {
     show_option(out, "place", part.place)?;
     if let Some(turn) = part.flush {
         show_stage(out, turn.stage)?;
+        show_option(out, "cleared", turn.cleared)?;
     }
     writeln!(out)
 }

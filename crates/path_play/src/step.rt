@@ -54,7 +54,11 @@ const STEPS: [(&str, StepName); 14] = [
 
 const KINDS: [(&str, ClaimKind); 2] = [("entry", ClaimKind::Entry), ("marker", ClaimKind::Marker)];
 
-const PARTS: [(&str, SwitchPart); 2] = [("open", SwitchPart::Open), ("mark", SwitchPart::Mark)];
+const PARTS: [(&str, SwitchPart); 3] = [
+    ("clear", SwitchPart::Clear),
+    ("open", SwitchPart::Open),
+    ("mark", SwitchPart::Mark),
+];
 
 /// The step of a name, whose seat is the next word.
 pub(crate) fn event(alloc: Global, name: &str, words: &mut Words) -> Result<Event, Fault> {

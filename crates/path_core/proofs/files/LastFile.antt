@@ -31,7 +31,7 @@ use Rattle.path_core.specs.declared.event.Event.TheVariants.{
   Finalise,
   Put,
 }
-use Rattle.path_core.specs.declared.event.SwitchPart.TheVariants.{Open, Mark}
+use Rattle.path_core.specs.declared.event.SwitchPart.TheVariants.{Clear, Open, Mark}
 use Rattle.path_core.specs.declared.state.Bound.TheVariants.{Final}
 use Rattle.path_core.specs.declared.state.PathState.{PathState}
 use Rattle.path_core.specs.declared.state.WrittenFile.{WrittenFile}
@@ -61,6 +61,7 @@ oldest_same x (MoveCurrent by Write group) a other t =
     barred_at x.write.current (seat_of x by).tables x.tables
     (λ tb. tb.oldest_live ≡ (table_of x t).oldest_live) t refl refl
 oldest_same x (MoveCurrent by Append group) a other t = refl
+oldest_same x (Switch by table m Clear) a other t = refl
 oldest_same x (Switch by table m Open) a other t =
     put_at x.tables table.0 _ fresh_table a.is_there
     (λ u tb. tb.oldest_live ≡ (table_of x u).oldest_live) refl (λ _ _. refl) t

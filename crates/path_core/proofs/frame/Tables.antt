@@ -39,7 +39,7 @@ use Rattle.path_core.specs.declared.event.Event.TheVariants.{
   Put,
 }
 use Rattle.path_core.specs.declared.event.Place.TheVariants.{Newest, Bound, CursorWord}
-use Rattle.path_core.specs.declared.event.SwitchPart.TheVariants.{Open, Mark}
+use Rattle.path_core.specs.declared.event.SwitchPart.TheVariants.{Clear, Open, Mark}
 use Rattle.path_core.specs.declared.seat.SeatTable.{SeatTable}
 use Rattle.path_core.specs.declared.state.Bound.{Bound as BoundOf}
 use Rattle.path_core.specs.declared.state.Bound.TheVariants.{Raising}
@@ -142,6 +142,7 @@ module _ (x : PathState) (e : Event) (a : IsStep x e) where
       by (MoveCurrent y Write g) a n =
           barred_reads (λ t. t.newest) x.write.current (seat_of x y).tables x.tables u.0 (λ t. refl)
       by (MoveCurrent y Append g) a n = refl
+      by (Switch y t m Clear) a n = refl
       by (Switch y t m Open) a n =
           other_at x.tables t.0 _ u.0 (λ t. t.newest) (λ s. n (λ i. Newest (record { 0 = s i })))
       by (Switch y t m Mark) a n =
@@ -164,6 +165,7 @@ module _ (x : PathState) (e : Event) (a : IsStep x e) where
           barred_reads (λ t. t.oldest_live) x.write.current (seat_of x y).tables x.tables u.0
           (λ t. refl)
       by (MoveCurrent y Append g) a n = refl
+      by (Switch y t m Clear) a n = refl
       by (Switch y t m Open) a n =
           same_at x.tables t.0 _ u.0 (λ t. t.oldest_live) refl a.is_there
       by (Switch y t m Mark) a n =
@@ -189,6 +191,7 @@ module _ (x : PathState) (e : Event) (a : IsStep x e) where
           barred_reads (bound_at k) x.write.current (seat_of x y).tables x.tables u.0
           (λ t. bounds_barred x.write.current t.memtables k)
       by (MoveCurrent y Append g) a n = refl
+      by (Switch y t m Clear) a n = refl
       by (Switch y t m Open) a n =
           same_at x.tables t.0 _ u.0 (bound_at k)
           (ap (λ (y : Memtable). y.bound) (default_put (table_of x t.0).memtables fresh_memtable k))

@@ -49,14 +49,14 @@ use Rattle.path_core.specs.declared.event.Place.TheVariants.{
   CursorWord,
 }
 use Rattle.path_core.specs.declared.event.Reading.TheVariants.{Operations, Number, Limit}
-use Rattle.path_core.specs.declared.event.SwitchPart.TheVariants.{Open, Mark}
+use Rattle.path_core.specs.declared.event.SwitchPart.TheVariants.{Clear, Open, Mark}
 use Rattle.path_core.specs.declared.event.Turn.{Turn}
 use Rattle.path_core.specs.declared.seat.Seat.{Seat}
 use Rattle.path_core.specs.declared.state.Bound.TheVariants.{Raising}
 use Rattle.path_core.specs.declared.state.Memtable.{Memtable}
 use Rattle.path_core.specs.declared.state.PathState.{PathState}
 use Rattle.path_core.specs.declared.state.TableState.{TableState}
-use Rattle.path_core.specs.Parts.{fresh_seat, fresh_table, seat_of, holds_turn}
+use Rattle.path_core.specs.Parts.{fresh_seat, fresh_table, seat_of, table_of, holds_turn}
 use Rattle.path_core.specs.Words.{reading, by_of, place_of}
 use Rattle.path_core.specs.SeatParts.{raised_to, made_final}
 use Rattle.path_core.specs.Allowed.{IsStep}
@@ -64,6 +64,7 @@ use Rattle.path_core.specs.Next.{next_of, with_bound, log_after, synced_after, s
 use Rattle.path_core.specs.Frame.{left_by}
 use Rattle.path_core.specs.Lawful.{IsLawfulPath}
 use Rattle.path_core.proofs.orders.OtherSteps.{columns_of}
+use Rattle.path_core.proofs.tables.TableBounds.{past_is_live}
 use Rattle.path_core.proofs.seats.Columns.{own_after, Columns, each_seat}
 use Rattle.path_core.proofs.places.AtRest.{opens_new}
 use Rattle.path_core.proofs.runs.Sizes.{as_many_seats}
@@ -187,6 +188,9 @@ left_here x L (MoveCurrent by Append g) a = refl
 left_here x L (Advance by Write g) a = refl
 left_here x L (Advance by Append g) a = refl
 left_here x L (Claim by from to what) a = refl
+left_here x L (Switch by t m Clear) a =
+    ap Limit (past_is_live x.log (table_of x t.0) (L.switches.tables t.0) m
+    (let up = a.row.2 in omega arith))
 left_here x L (Switch by t m Open) a =
     ap (λ (y : TableState). Number y.newest)
     (get_or-set_same x.tables t.0 _ fresh_table a.is_there)

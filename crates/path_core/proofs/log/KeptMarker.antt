@@ -49,7 +49,7 @@ use Rattle.path_core.specs.declared.event.Place.TheVariants.{
 }
 use Rattle.path_core.specs.declared.event.Reading.{Reading}
 use Rattle.path_core.specs.declared.event.Reading.TheVariants.{Operations, Number, Limit}
-use Rattle.path_core.specs.declared.event.SwitchPart.TheVariants.{Open, Mark}
+use Rattle.path_core.specs.declared.event.SwitchPart.TheVariants.{Clear, Open, Mark}
 use Rattle.path_core.specs.declared.event.Turn.TheVariants.{Sync, Flush}
 use Rattle.path_core.specs.declared.seat.LastMarker.{LastMarker}
 use Rattle.path_core.specs.declared.seat.Seat.{Seat}
@@ -164,5 +164,6 @@ kept_stays (Raise by table m to) s (Limit b) told other = refl
 kept_stays (Finalise by table m) s (Operations k) told other = refl
 kept_stays (Finalise by table m) s (Number n) told other = refl
 kept_stays (Finalise by table m) s (Limit b) told other = refl
+kept_stays (Switch by table m Clear) s found told other = refl
 kept_stays (Switch by table m Open) s found told other = refl
 kept_stays (Switch by table m Mark) s found told other = refl

@@ -68,7 +68,7 @@ use Rattle.path_core.specs.declared.event.Place.TheVariants.{
 }
 use Rattle.path_core.specs.declared.event.Reading.{Reading}
 use Rattle.path_core.specs.declared.event.Reading.TheVariants.{Operations, Number, Limit}
-use Rattle.path_core.specs.declared.event.SwitchPart.TheVariants.{Open, Mark}
+use Rattle.path_core.specs.declared.event.SwitchPart.TheVariants.{Clear, Open, Mark}
 use Rattle.path_core.specs.declared.event.Turn.TheVariants.{Sync, Flush}
 use Rattle.path_core.specs.declared.seat.Seat.{Seat}
 use Rattle.path_core.specs.declared.state.Claim.{Claim as ClaimOf}
@@ -155,6 +155,7 @@ waits_stay (Raise by table m to) s (Limit b) told other = refl
 waits_stay (Finalise by table m) s (Operations k) told other = refl
 waits_stay (Finalise by table m) s (Number n) told other = refl
 waits_stay (Finalise by table m) s (Limit b) told other = refl
+waits_stay (Switch by table m Clear) s found told other = refl
 waits_stay (Switch by table m Open) s found told other = refl
 waits_stay (Switch by table m Mark) s found told other = refl
 

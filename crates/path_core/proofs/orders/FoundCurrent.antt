@@ -35,7 +35,7 @@ use Rattle.path_core.specs.declared.event.Place.TheVariants.{
 }
 use Rattle.path_core.specs.declared.event.Reading.{Reading}
 use Rattle.path_core.specs.declared.event.Reading.TheVariants.{Operations, Number, Limit}
-use Rattle.path_core.specs.declared.event.SwitchPart.TheVariants.{Open, Mark}
+use Rattle.path_core.specs.declared.event.SwitchPart.TheVariants.{Clear, Open, Mark}
 use Rattle.path_core.specs.declared.event.Turn.TheVariants.{Sync, Flush}
 use Rattle.path_core.specs.declared.seat.Seat.{Seat}
 use Rattle.path_core.specs.declared.state.PathState.{PathState}
@@ -118,6 +118,7 @@ finds_same (Advance by Write group) s found told other = same refl refl
 finds_same (Advance by Append group) s found told other = same refl refl
 finds_same (Claim by from to Entry) s found told other = same refl refl
 finds_same (Claim by from to Marker) s found told other = same refl refl
+finds_same (Switch by table memtable Clear) s found told other = same refl refl
 finds_same (Switch by table memtable Open) s found told other = same refl refl
 finds_same (Switch by table memtable Mark) s found told other = same refl refl
 finds_same (Raise by table memtable to) s (Limit b) told other = same refl refl

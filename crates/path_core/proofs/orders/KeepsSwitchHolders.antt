@@ -34,7 +34,7 @@ use Rattle.path_core.specs.declared.event.Event.TheVariants.{
   GiveTurn,
   Put,
 }
-use Rattle.path_core.specs.declared.event.SwitchPart.TheVariants.{Open, Mark}
+use Rattle.path_core.specs.declared.event.SwitchPart.TheVariants.{Clear, Open, Mark}
 use Rattle.path_core.specs.declared.event.Turn.TheVariants.{Sync, Flush}
 use Rattle.path_core.specs.declared.state.PathState.{PathState}
 use Rattle.path_core.specs.Parts.{
@@ -69,6 +69,7 @@ module _ (x : PathState) (sized : IsSized x) (O : IsOrderly x) where
   newest_is (MoveCurrent by Write group) a t = inl (barred_at x.write.current
       (seat_of x by).tables x.tables (λ tb. tb.newest ≡ (table_of x t).newest) t refl refl)
   newest_is (MoveCurrent by Append group) a t = inl refl
+  newest_is (Switch by table m Clear) a t = inl refl
   newest_is (Switch by table m Open) a t =
       let e = Switch by table m Open in
       put_at x.tables table.0 _ fresh_table a.is_there

@@ -37,7 +37,7 @@ use Rattle.path_core.specs.declared.event.Event.TheVariants.{
   Finalise,
   Put,
 }
-use Rattle.path_core.specs.declared.event.SwitchPart.TheVariants.{Open, Mark}
+use Rattle.path_core.specs.declared.event.SwitchPart.TheVariants.{Clear, Open, Mark}
 use Rattle.path_core.specs.declared.seat.Range.{Range}
 use Rattle.path_core.specs.declared.state.PathState.{PathState}
 use Rattle.path_core.specs.Parts.{
@@ -137,6 +137,7 @@ module _ (x : PathState) (C : IsLawfulCore x) (P : PlacesAre x) where
       (seat_of x by).tables x.tables (λ tb. m < tb.oldest_live → m < (table_of x t).oldest_live) t
       (λ h. h) (λ h. h) l)
   retired_were (MoveCurrent by Append group) a t m l = inl l
+  retired_were (Switch by table k Clear) a t m l = inl l
   retired_were (Switch by table k Open) a t m l = inl
       (put_at x.tables table.0 _ fresh_table a.is_there
       (λ u tb. m < tb.oldest_live → m < (table_of x u).oldest_live) (λ h. h) (λ _ _ h. h) t l)

@@ -32,7 +32,7 @@ use Rattle.path_core.specs.declared.event.Event.TheVariants.{
   Finalise,
   Put,
 }
-use Rattle.path_core.specs.declared.event.SwitchPart.TheVariants.{Open, Mark}
+use Rattle.path_core.specs.declared.event.SwitchPart.TheVariants.{Clear, Open, Mark}
 use Rattle.path_core.specs.declared.state.PathState.{PathState}
 use Rattle.path_core.specs.Parts.{
   seat_of,
@@ -214,6 +214,7 @@ module _ (x : PathState) (sized : IsSized x) (T : ClaimsTile x) (O : IsOrderly x
       (λ tb. TableMoves x.log x.write.current (table_of x t) tb) t
       (still x.log x.write.current (table_of x t)) (bars x.log x.write.current (table_of x t))
   table_moves (MoveCurrent by Append group) a t = still x.log x.write.current (table_of x t)
+  table_moves (Switch by table m Clear) a t = still x.log x.write.current (table_of x t)
   table_moves (Switch by table m Open) a t = put_at x.tables table.0 _ fresh_table a.is_there
       (λ u tb. TableMoves x.log x.write.current (table_of x u) tb) (opens x.log x.write.current m
       (table_of x table.0) a.row.2)

@@ -33,7 +33,7 @@ use Rattle.path_core.specs.declared.event.Place.TheVariants.{
 }
 use Rattle.path_core.specs.declared.event.Reading.{Reading}
 use Rattle.path_core.specs.declared.event.Reading.TheVariants.{Operations, Number, Limit}
-use Rattle.path_core.specs.declared.event.SwitchPart.TheVariants.{Open, Mark}
+use Rattle.path_core.specs.declared.event.SwitchPart.TheVariants.{Clear, Open, Mark}
 use Rattle.path_core.specs.declared.event.Turn.TheVariants.{Sync, Flush}
 use Rattle.path_core.specs.declared.seat.FlushTurn.{FlushTurn}
 use Rattle.path_core.specs.declared.seat.Seat.{Seat}
@@ -45,7 +45,15 @@ use Rattle.path_core.specs.declared.seat.Switching.TheVariants.{
 }
 use Rattle.path_core.specs.Parts.{untouched, seat_table}
 use Rattle.path_core.specs.declared.state.Bound.TheVariants.{Raising}
-use Rattle.path_core.specs.SeatAfter.{Told, seat_after, looked, number_read, new_flush}
+use Rattle.path_core.specs.SeatAfter.{
+  Told,
+  seat_after,
+  looked,
+  number_read,
+  new_flush,
+  place_cleared,
+  newest_made,
+}
 use Rattle.path_core.specs.SeatParts.{
   at_table,
   in_flush,
@@ -129,9 +137,10 @@ tries_same (Advance by Write group) s found told u other = refl
 tries_same (Advance by Append group) s found told u other = refl
 tries_same (Claim by from to Entry) s found told u other = refl
 tries_same (Claim by from to Marker) s found told u other = refl
+tries_same (Switch by table memtable Clear) s found told u other =
+    at_table_keeps table.0 u (place_cleared memtable) s tried_in refl
 tries_same (Switch by table memtable Open) s found told u other = at_table_keeps table.0 u
-    (λ (st : SeatTable). reaches (Begun memtable)
-    (in_flush (λ (turn : FlushTurn). record turn { newest = Some memtable }) st)) s tried_in refl
+    (λ (st : SeatTable). reaches (Begun memtable) (newest_made memtable st)) s tried_in refl
 tries_same (Switch by table memtable Mark) s found told u other = at_table_keeps table.0 u
     (λ (st : SeatTable). reaches
     (MarkedStage (record { memtable = memtable; key = None; raised = false }))

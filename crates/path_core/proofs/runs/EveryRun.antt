@@ -56,6 +56,8 @@ module _ (x : PathState) (L : IsLawfulPath x) where
   logged_of = record {
     placing = placing_of;
     barriers_below_current = L.barriers_below_current;
+    groups_are_few = L.groups_are_few;
+    no_try_below_the_grace = L.no_try_below_the_grace;
     a_switch_has_a_holder = L.a_switch_has_a_holder;
     later_groups_log_above = L.later_groups_log_above;
     synced_below_the_log = L.synced_below_the_log;
@@ -86,6 +88,7 @@ both_parts x G K = let W = G.placing.core in let L = W.log in record {
   switches = W.switches;
   places = G.placing.places;
   placed_once = K.placed_once;
+  no_try_below_the_grace = G.no_try_below_the_grace;
   later_groups_log_above = G.later_groups_log_above;
   retired_is_filed = K.retired_is_filed;
   logged_is_the_synced_part = G.logged_is_the_synced_part;
@@ -95,6 +98,7 @@ both_parts x G K = let W = G.placing.core in let L = W.log in record {
   notes_are_claims = L.notes_are_claims;
   synced_below_the_log = G.synced_below_the_log;
   barriers_below_current = G.barriers_below_current;
+  groups_are_few = G.groups_are_few;
   last_file_is_retired = K.last_file_is_retired;
   files_begin = K.files_begin;
   running_is_unplaced = K.running_is_unplaced;

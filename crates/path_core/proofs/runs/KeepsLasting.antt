@@ -23,7 +23,7 @@ use Rattle.path_core.specs.Runs.{opening}
 use Rattle.path_core.specs.Whole.{CarriesWhole}
 use Rattle.path_core.specs.Lawful.{IsLawfulLogged}
 use Rattle.path_core.specs.LawfulLog.{LoggedIsSynced, SyncedIsMarker}
-use Rattle.path_core.specs.LawfulOrders.{SwitchesHeld}
+use Rattle.path_core.specs.LawfulOrders.{GroupsAreFew, SwitchesHeld}
 use Rattle.path_core.specs.LawfulSeats.{SeatKnows, StageIs}
 use Rattle.path_core.specs.LawfulTables.{BarriersBelow, LaterGroupsAbove}
 use Rattle.path_core.proofs.seats.Columns.{untouched_there}
@@ -32,6 +32,9 @@ use Rattle.path_core.proofs.runs.OpeningPlaces.{fresh_at, opening_placing}
 use Rattle.path_core.proofs.runs.KeepsPlacing.{keeps_placing}
 use Rattle.path_core.proofs.tables.KeepsBarriers.{keeps_barriers}
 use Rattle.path_core.proofs.orders.GroupsMove.{groups_move}
+use Rattle.path_core.proofs.orders.KeepsFew.{keeps_few}
+use Rattle.path_core.proofs.places.LaterTries.{keeps_later_tries}
+use Rattle.op_core.specs.declared.count.Order.TheVariants.{Write, Append}
 use Rattle.path_core.proofs.orders.KeepsSwitchHolders.{keeps_switches_held}
 use Rattle.path_core.proofs.log.KeepsSynced.{keeps_later_groups, keeps_synced}
 use Rattle.path_core.proofs.log.KeptMarker.{kept_under}
@@ -53,6 +56,8 @@ keeps_logged_part x G e a whole =
       placing = P;
       barriers_below_current = keeps_barriers x L.sized L.claims_tile_the_log L.orders C.switches
           G.barriers_below_current e a (λ o. (groups_move x L.orders o e a).current);
+      groups_are_few = keeps_few x L.sized L.orders G.groups_are_few e a;
+      no_try_below_the_grace = keeps_later_tries x C G.placing.places G.no_try_below_the_grace e a;
       a_switch_has_a_holder = keeps_switches_held x L.sized L.orders G.a_switch_has_a_holder e a;
       later_groups_log_above = keeps_later_groups x L G.later_groups_log_above e a;
       synced_below_the_log = keeps_synced x L G.synced_below_the_log e a;
@@ -73,6 +78,11 @@ module _ (tables seats capacity ordinals base : ℕ) where
         (fresh_at tables seats capacity ordinals base t m)) ∙ h));
     markers = λ i g h. absurd (omega arith);
   }
+
+  -- one group of each order was made
+  first_few : GroupsAreFew first
+  first_few Write = omega arith
+  first_few Append = omega arith
 
   -- no switch was made
   first_switches : SwitchesHeld first
@@ -142,6 +152,9 @@ module _ (tables seats capacity ordinals base : ℕ) where
   opening_logged limits = record {
     placing = opening_placing tables seats capacity ordinals base limits;
     barriers_below_current = first_barriers;
+    groups_are_few = first_few;
+    no_try_below_the_grace = λ t m g h w k b. absurd (none-some g (sym (ap (λ (k : Memtable).
+        k.barrier) (fresh_at tables seats capacity ordinals base t m)) ∙ b));
     a_switch_has_a_holder = first_switches;
     later_groups_log_above = first_later;
     synced_below_the_log = first_synced;

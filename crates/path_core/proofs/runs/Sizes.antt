@@ -25,7 +25,7 @@ use Rattle.path_core.specs.declared.event.Event.TheVariants.{
   Put,
 }
 use Rattle.path_core.specs.declared.event.Cursor.TheVariants.{Synced, OldestLive, Stopped}
-use Rattle.path_core.specs.declared.event.SwitchPart.TheVariants.{Open, Mark}
+use Rattle.path_core.specs.declared.event.SwitchPart.TheVariants.{Clear, Open, Mark}
 use Rattle.path_core.specs.declared.seat.SeatTable.{SeatTable}
 use Rattle.path_core.specs.declared.state.PathState.{PathState}
 use Rattle.path_core.specs.declared.state.TableState.{TableState}
@@ -50,6 +50,7 @@ pub as_many_tables : (x : PathState) (e : Event) → length (next_of x e).tables
 as_many_tables x (MoveCurrent by Write group) =
     as_many_barred x.write.current (seat_of x by).tables x.tables
 as_many_tables x (MoveCurrent by Append group) = refl
+as_many_tables x (Switch by table memtable Clear) = refl
 as_many_tables x (Switch by table memtable Open) = length-set x.tables table.0 _
 as_many_tables x (Switch by table memtable Mark) = length-set x.tables table.0 _
 as_many_tables x (Raise by table memtable to) = length-set x.tables table.0 _

@@ -46,6 +46,7 @@ all_known x w K = record {
       newest = F.newest;
       oldest_live = F.oldest_live;
       bound = F.bound;
+      cleared = F.cleared;
     };
   };
 }
@@ -71,6 +72,7 @@ seat_knows x w W K kept waits stages = record {
     newest = F.newest;
     oldest_live = F.oldest_live;
     bound = F.bound;
+    cleared = F.cleared;
     stage = stages t turn h;
   };
   marker_waits = waits;

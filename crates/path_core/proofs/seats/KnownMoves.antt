@@ -35,7 +35,7 @@ use Rattle.path_core.specs.declared.event.Event.TheVariants.{
   Finalise,
   Put,
 }
-use Rattle.path_core.specs.declared.event.SwitchPart.TheVariants.{Open, Mark}
+use Rattle.path_core.specs.declared.event.SwitchPart.TheVariants.{Clear, Open, Mark}
 use Rattle.path_core.specs.declared.seat.FlushTurn.{FlushTurn}
 use Rattle.path_core.specs.declared.seat.Marked.{Marked}
 use Rattle.path_core.specs.declared.seat.Seat.{Seat}
@@ -162,6 +162,7 @@ module _ (x : PathState) (L : IsLawfulLog x) where
       (left_grows _ _ (left_itself (table_of x t)))
       (left_grows _ _ (barred_left x.write.current (table_of x t)))
   table_grows (MoveCurrent by Append group) a t = left_grows _ _ (left_itself (table_of x t))
+  table_grows (Switch by table m Clear) a t = left_grows _ _ (left_itself (table_of x t))
   table_grows (Switch by table m Open) a t =
       put_at x.tables table.0 _ fresh_table a.is_there
       (λ u tb. TableGrows (table_of x u) tb)
@@ -199,6 +200,7 @@ module _ (x : PathState) (L : IsLawfulLog x) where
       (seat_of x by).tables x.tables (λ tb. TableLeft (table_of x t) tb) t
       (left_itself (table_of x t)) (barred_left x.write.current (table_of x t)))
   table_left (MoveCurrent by Append group) a t = inl (left_itself (table_of x t))
+  table_left (Switch by table m Clear) a t = inl (left_itself (table_of x t))
   table_left (Switch by table m Open) a t = put_at x.tables table.0 _ fresh_table a.is_there
       (λ u tb. TableLeft (table_of x u) tb ⊎ IsSome (seat_table (seat_of x by) u).flush)
       (inr a.row.0) (λ u _. inl (left_itself (table_of x u))) t

@@ -23,7 +23,7 @@ use Rattle.path_core.specs.declared.event.Event.TheVariants.{
   GiveTurn,
   Put,
 }
-use Rattle.path_core.specs.declared.event.SwitchPart.TheVariants.{Open, Mark}
+use Rattle.path_core.specs.declared.event.SwitchPart.TheVariants.{Clear, Open, Mark}
 use Rattle.path_core.specs.declared.event.Turn.TheVariants.{Sync, Flush}
 use Rattle.path_core.specs.declared.seat.Issue.TheVariants.{Rest, Opened}
 use Rattle.path_core.specs.declared.seat.SyncTurn.{SyncTurn}
@@ -152,6 +152,8 @@ module _ (x : PathState) (L : IsLawfulLog x) where
         marker_waits = true;
       }) (same_known (next_of x e) (record (seat_of x by) { found = found }) _ refl refl
       (log_known (next_of x e) to.0 (seat_of x by) (omega arith) now))
+  own_knows (Switch by table memtable Clear) a K = let e = Switch by table memtable Clear in
+      same_known _ (seat_of x by) _ refl refl (known_left x L e a (λ b. b) (seat_of x by) K)
   own_knows (Switch by table memtable Open) a K = let e = Switch by table memtable Open in
       same_known _ (seat_of x by) _ refl refl (known_left x L e a (λ b. b) (seat_of x by) K)
   own_knows (Switch by table memtable Mark) a K = let e = Switch by table memtable Mark in

@@ -2,6 +2,7 @@
 use Rattle.std.proofs.Common.{
   ◌≡◌,
   ℕ,
+  suc,
   ◌<◌,
   ◌≤◌,
   length,
@@ -40,6 +41,7 @@ pub record TurnIs (table : TableState) (turn : FlushTurn) : Type 0 where
   pub oldest_live : (n : ℕ) → turn.oldest_live ≡ Some n → n ≡ table.oldest_live
   pub bound : (found : FoundBound) → turn.bound ≡ Some found
       → BoundExact found.bound (memtable_at table found.memtable).bound
+  pub cleared : (m : ℕ) → turn.cleared ≡ Some m → m ≡ suc table.newest
 
 -- What a seat knows of a table.
 pub record KnowsTable (table : TableState) (st : SeatTable) : Type 0 where
@@ -101,6 +103,7 @@ known_still table after M st K = record {
     newest = λ n h. F.newest n h ∙ sym M.newest;
     oldest_live = λ n h. F.oldest_live n h ∙ sym M.oldest_live;
     bound = λ found h. exact_on found.bound _ _ (F.bound found h) (M.bounds found.memtable);
+    cleared = λ m h. F.cleared m h ∙ ap suc (sym M.newest);
   };
 }
 

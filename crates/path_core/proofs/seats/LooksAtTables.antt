@@ -120,8 +120,8 @@ module _ (x : PathState) (L : IsLawfulLog x) where
   looks_at by (Newest table) a K t = at_each table.0
       (in_flush (λ (turn : FlushTurn). record turn { newest = Some (table_of x table.0).newest }))
       (seat_of x by) (λ u st. KnowsTable (table_of x u) st) (fits table.0 by a.is_there)
-      (newest_known (table_of x table.0) (table_of x table.0) (table_of x table.0).newest
-      (seat_table (seat_of x by) table.0) (omega arith) (λ m. refl) refl refl (K table.0)) K t
+      (newest_known (table_of x table.0) (table_of x table.0).newest
+      (seat_table (seat_of x by) table.0) refl (K table.0)) K t
   looks_at by (Bound table m) a K t = at_each table.0
       (λ (st : SeatTable). tries_bound (deposited_end (seat_of x by)) m
       (memtable_of x table.0 m).bound (bound_found m (memtable_of x table.0 m).bound st))

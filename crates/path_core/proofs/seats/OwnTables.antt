@@ -36,7 +36,7 @@ use Rattle.path_core.specs.declared.event.Event.TheVariants.{
   GiveTurn,
   Put,
 }
-use Rattle.path_core.specs.declared.event.SwitchPart.TheVariants.{Open, Mark}
+use Rattle.path_core.specs.declared.event.SwitchPart.TheVariants.{Clear, Open, Mark}
 use Rattle.path_core.specs.declared.event.Turn.TheVariants.{Sync, Flush}
 use Rattle.path_core.specs.declared.seat.FlushTurn.{FlushTurn}
 use Rattle.path_core.specs.declared.seat.SeatTable.{SeatTable}
@@ -67,7 +67,14 @@ use Rattle.path_core.specs.SeatParts.{
   with_barrier,
   barrier_issued,
 }
-use Rattle.path_core.specs.SeatAfter.{raised_as_writer, raised_as_holder, left_table, new_flush}
+use Rattle.path_core.specs.SeatAfter.{
+  raised_as_writer,
+  raised_as_holder,
+  left_table,
+  new_flush,
+  place_cleared,
+  newest_made,
+}
 use Rattle.path_core.specs.Next.{next_of, with_memtable, with_bound}
 use Rattle.path_core.specs.Lawful.{IsLawfulLog}
 use Rattle.path_core.proofs.seats.Columns.{own_after}
@@ -76,7 +83,8 @@ use Rattle.path_core.proofs.seats.KnownTables.{KnowsTable, known_still, known_un
 use Rattle.path_core.proofs.seats.TableParts.{
   same_table,
   stage_known,
-  newest_known,
+  cleared_known,
+  made_known,
   oldest_known,
   bound_known,
   raises_known,
@@ -124,17 +132,20 @@ module _ (x : PathState) (L : IsLawfulLog x) where
   own_tables (Advance by Append group) a K t = K t
   own_tables (Claim by from to Entry) a K t = K t
   own_tables (Claim by from to Marker) a K t = K t
+  own_tables (Switch by table m Clear) a K t = at_each table.0 (place_cleared m) (seat_of x by)
+      (λ u st. KnowsTable (table_of x u) st) (fits x L table.0 by a.is_there)
+      (cleared_known (table_of x table.0) m (seat_table (seat_of x by) table.0) a.row.2 (K table.0))
+      K t
   own_tables (Switch by table m Open) a K t = both_at x L (seat_of x by) table.0
       (record (table_of x table.0) {
         newest = m;
         memtables = (table_of x table.0).memtables ++ fresh_memtable ∷ [];
       })
-      (λ (st : SeatTable). reaches (Begun m)
-      (in_flush (λ (turn : FlushTurn). record turn { newest = Some m }) st)) a.is_there
+      (λ (st : SeatTable). reaches (Begun m) (newest_made m st)) a.is_there
       (fits x L table.0 by a.is_there)
       (let long = length-append (table_of x table.0).memtables (fresh_memtable ∷ []) in
       stage_known _ _ (λ _. Begun m)
-      (newest_known (table_of x table.0) _ m (seat_table (seat_of x by) table.0) (omega arith)
+      (made_known (table_of x table.0) _ m (seat_table (seat_of x by) table.0) (omega arith)
       (opened_same (table_of x table.0) m) refl refl (K table.0))) K t
   own_tables (Switch by table m Mark) a K t = both_at x L (seat_of x by) table.0
       (with_memtable (table_of x table.0) m (mark x L))

@@ -38,7 +38,7 @@ use Rattle.path_core.specs.declared.event.Event.TheVariants.{
 }
 use Rattle.path_core.specs.declared.event.Reading.{Reading}
 use Rattle.path_core.specs.declared.event.Reading.TheVariants.{Limit}
-use Rattle.path_core.specs.declared.event.SwitchPart.TheVariants.{Open, Mark}
+use Rattle.path_core.specs.declared.event.SwitchPart.TheVariants.{Clear, Open, Mark}
 use Rattle.path_core.specs.declared.event.Turn.TheVariants.{Sync, Flush}
 use Rattle.path_core.specs.declared.seat.FlushTurn.{FlushTurn}
 use Rattle.path_core.specs.declared.seat.Issue.TheVariants.{Rest, Opened, Moved}
@@ -60,9 +60,9 @@ use Rattle.path_core.specs.SeatAfter.{
   number_read,
   left_table,
   new_flush,
+  newest_made,
 }
 use Rattle.path_core.specs.SeatParts.{
-  in_flush,
   oldest_found,
   bound_found,
   raised_to,
@@ -132,10 +132,13 @@ columns (Claim by from to Entry) s found told fits = columns_are _ s _
     refl refl refl refl refl (λ t. refl) refl
 columns (Claim by from to Marker) s found told fits = columns_left (Claim by from to Marker) s _
     (finds_in_sync _ _ _ s (λ turn. refl)) refl refl refl refl refl (λ t. refl)
+columns (Switch by table memtable Clear) s found told fits =
+    columns_left (Switch by table memtable Clear) s _
+    (leaves_flush table.0 (λ (turn : FlushTurn). record turn { cleared = Some memtable }) s)
+    refl refl refl refl refl (λ t. refl)
 columns (Switch by table memtable Open) s found told fits =
     columns_left (Switch by table memtable Open) s _ (leaves_at_table table.0
-    (λ (st : SeatTable). reaches (Begun memtable)
-    (in_flush (λ (turn : FlushTurn). record turn { newest = Some memtable }) st)) s
+    (λ (st : SeatTable). reaches (Begun memtable) (newest_made memtable st)) s
     (still_some _ _ ∙ still_some (seat_table s table.0).flush _))
     refl refl refl refl refl (λ t. refl)
 columns (Switch by table memtable Mark) s found told fits =

@@ -2,6 +2,7 @@
 use Rattle.std.proofs.Common.{
   ◌≡◌,
   ℕ,
+  suc,
   ◌<◌,
   ◌≤◌,
   Bool,
@@ -15,6 +16,7 @@ use Rattle.std.proofs.Common.{
   None,
   refl,
   sym,
+  ap,
   ◌∙◌,
   subst,
 }
@@ -27,7 +29,13 @@ use Rattle.path_core.specs.declared.state.Bound.{Bound}
 use Rattle.path_core.specs.declared.state.TableState.{TableState}
 use Rattle.path_core.specs.Parts.{memtable_at, is_at}
 use Rattle.path_core.specs.SeatParts.{in_flush, bound_found, tries_bound, begins_at, is_raising}
-use Rattle.path_core.specs.SeatAfter.{raised_as_writer, raised_as_holder, new_flush}
+use Rattle.path_core.specs.SeatAfter.{
+  raised_as_writer,
+  raised_as_holder,
+  new_flush,
+  place_cleared,
+  newest_made,
+}
 use Rattle.path_core.specs.LawfulSeats.{BoundStays, BoundExact}
 use Rattle.path_core.proofs.seats.KnownWords.{turn_mapped}
 use Rattle.path_core.proofs.seats.KnownBounds.{stays_itself, exact_itself}
@@ -51,25 +59,62 @@ stage_known table st stage K = record {
   flush = turn_mapped (TurnIs table) st.flush
       (λ (turn : FlushTurn). record turn { stage = stage turn })
       (λ turn h. let F = K.flush turn h in
-      record { newest = F.newest; oldest_live = F.oldest_live; bound = F.bound });
+      record {
+        newest = F.newest;
+        oldest_live = F.oldest_live;
+        bound = F.bound;
+        cleared = F.cleared;
+      });
 }
 
--- The newest memtable is found or put; bounds are what they were.
-pub newest_known : (table after : TableState) (n : ℕ) (st : SeatTable)
+-- The newest memtable is found.
+pub newest_known : (table : TableState) (n : ℕ) (st : SeatTable) → n ≡ table.newest
+    → KnowsTable table st
+    → KnowsTable table (in_flush (λ (turn : FlushTurn). record turn { newest = Some n }) st)
+newest_known table n st is K = record {
+  bounds = K.bounds;
+  flush = turn_mapped (TurnIs table) st.flush
+      (λ (turn : FlushTurn). record turn { newest = Some n })
+      (λ turn h. let F = K.flush turn h in record {
+        newest = λ m h. sym (same_Some n m h) ∙ is;
+        oldest_live = F.oldest_live;
+        bound = F.bound;
+        cleared = F.cleared;
+      });
+}
+
+-- The place of the memtable to come is cleared.
+pub cleared_known : (table : TableState) (n : ℕ) (st : SeatTable) → n ≡ suc table.newest
+    → KnowsTable table st → KnowsTable table (place_cleared n st)
+cleared_known table n st is K = record {
+  bounds = K.bounds;
+  flush = turn_mapped (TurnIs table) st.flush
+      (λ (turn : FlushTurn). record turn { cleared = Some n })
+      (λ turn h. let F = K.flush turn h in record {
+        newest = F.newest;
+        oldest_live = F.oldest_live;
+        bound = F.bound;
+        cleared = λ m h. sym (same_Some n m h) ∙ is;
+      });
+}
+
+-- The newest memtable is made; bounds are what they were.
+pub made_known : (table after : TableState) (n : ℕ) (st : SeatTable)
     → length table.memtables ≤ length after.memtables
     → ((m : ℕ) → (memtable_at after m).bound ≡ (memtable_at table m).bound)
     → n ≡ after.newest → after.oldest_live ≡ table.oldest_live → KnowsTable table st
-    → KnowsTable after (in_flush (λ (turn : FlushTurn). record turn { newest = Some n }) st)
-newest_known table after n st made same is oldest K = record {
+    → KnowsTable after (newest_made n st)
+made_known table after n st made same is oldest K = record {
   bounds = λ found h. bound_still table after (same_grows table after made same) found
       (K.bounds found h);
   flush = turn_mapped (TurnIs after) st.flush
-      (λ (turn : FlushTurn). record turn { newest = Some n })
+      (λ (turn : FlushTurn). record turn { newest = Some n; cleared = None })
       (λ turn h. let F = K.flush turn h in record {
         newest = λ m h. sym (same_Some n m h) ∙ is;
         oldest_live = λ m h. F.oldest_live m h ∙ sym oldest;
         bound = λ found h. subst (BoundExact found.bound) (sym (same found.memtable))
             (F.bound found h);
+        cleared = λ m h. absurd (none-some m h);
       });
 }
 
@@ -89,6 +134,7 @@ oldest_known table after n st made same is newest K = record {
         oldest_live = λ m h. sym (same_Some n m h) ∙ is;
         bound = λ found h. subst (BoundExact found.bound) (sym (same found.memtable))
             (F.bound found h);
+        cleared = λ m h. F.cleared m h ∙ ap suc (sym newest);
       });
 }
 
@@ -108,6 +154,7 @@ bound_known table after m b st made is newest oldest K = record {
         bound = λ found h. subst
             (λ (f : FoundBound). BoundExact f.bound (memtable_at after f.memtable).bound)
             (same_Some at found h) (subst (BoundExact b) (sym is) (exact_itself b));
+        cleared = λ m h. F.cleared m h ∙ ap suc (sym newest);
       });
 }
   where
@@ -150,6 +197,7 @@ taken_known table st K = record {
     newest = λ n h. absurd (none-some n h);
     oldest_live = λ n h. absurd (none-some n h);
     bound = λ found h. absurd (none-some found h);
+    cleared = λ m h. absurd (none-some m h);
   });
 }
 

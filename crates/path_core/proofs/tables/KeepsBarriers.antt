@@ -36,7 +36,7 @@ use Rattle.path_core.specs.declared.event.Event.TheVariants.{
   Finalise,
   Put,
 }
-use Rattle.path_core.specs.declared.event.SwitchPart.TheVariants.{Open, Mark}
+use Rattle.path_core.specs.declared.event.SwitchPart.TheVariants.{Clear, Open, Mark}
 use Rattle.path_core.specs.declared.state.Bound.TheVariants.{Raising}
 use Rattle.path_core.specs.declared.state.Claim.{Claim as ClaimOf}
 use Rattle.path_core.specs.declared.state.Memtable.{Memtable}
@@ -133,6 +133,7 @@ same_barrier : (x : PathState) (e : Event) → IsStep x e → (IssuesBarriers e 
     → (memtable_of (next_of x e) t m).barrier ≡ (memtable_of x t m).barrier
 same_barrier x (MoveCurrent by Write group) a other t m = absurd (other tt)
 same_barrier x (MoveCurrent by Append group) a other t m = refl
+same_barrier x (Switch by table k Clear) a other t m = refl
 same_barrier x (Switch by table k Open) a other t m =
     put_at x.tables table.0 _ fresh_table a.is_there
     (λ u tb. (memtable_at tb m).barrier ≡ (memtable_of x u m).barrier)

@@ -27,7 +27,7 @@ use Rattle.path_core.specs.declared.event.Event.TheVariants.{
   Finalise,
   Put,
 }
-use Rattle.path_core.specs.declared.event.SwitchPart.TheVariants.{Open, Mark}
+use Rattle.path_core.specs.declared.event.SwitchPart.TheVariants.{Clear, Open, Mark}
 use Rattle.path_core.specs.declared.state.PathState.{PathState}
 use Rattle.path_core.specs.Parts.{seat_of, fresh_memtable, fresh_table, table_of}
 use Rattle.path_core.specs.Next.{next_of}
@@ -71,6 +71,7 @@ module _ (x : PathState) (sized : IsSized x) (T : ClaimsTile x) (O : IsOrderly x
       barred_at x.write.current (seat_of x by).tables x.tables (λ tb. MemtablesAre x.log tb) t
       (W.tables t) (barred_is x.log (table_of x t) (W.tables t) x.write.current)
   keeps_tables (MoveCurrent by Append group) a t = W.tables t
+  keeps_tables (Switch by table m Clear) a t = W.tables t
   keeps_tables (Switch by table m Open) a t = at_set table.0 _ a.is_there
       (λ _ tb. MemtablesAre x.log tb)
       (subst (λ n. MemtablesAre x.log (record (table_of x table.0) {

@@ -15,7 +15,7 @@ use Rattle.path_core.specs.declared.event.Event.TheVariants.{
   GiveTurn,
 }
 use Rattle.path_core.specs.declared.event.Place.TheVariants.{Log}
-use Rattle.path_core.specs.declared.event.SwitchPart.TheVariants.{Open, Mark}
+use Rattle.path_core.specs.declared.event.SwitchPart.TheVariants.{Clear, Open, Mark}
 use Rattle.path_core.specs.declared.event.Turn.TheVariants.{Flush}
 use Rattle.path_core.specs.declared.seat.FlushTurn.{FlushTurn}
 use Rattle.path_core.specs.declared.seat.Switching.{Switching}
@@ -53,6 +53,8 @@ module _ (x : PathState) (C : IsLawfulCore x) where
       → Staged (next_of x e) t (stage_of (own_after x e) t)
   own_stages S (Look by Log) a K t = looks_at_log x C by a K t
   own_stages S (MoveCurrent by Write group) a K t = issues x C by group a K t
+  own_stages S (Switch by table m Clear) a K t =
+      quiet_own x C (Switch by table m Clear) a (λ b. b) K t
   own_stages S (Switch by table m Open) a K t = opens x C by table m a K t
   own_stages S (Switch by table m Mark) a K t = marks x C by table m a K t
   own_stages S (Raise by table m to) a K t = raises x C by table m to a K t

@@ -19,7 +19,7 @@ use Rattle.path_core.specs.declared.event.Event.TheVariants.{
   Put,
 }
 use Rattle.path_core.specs.declared.event.Place.TheVariants.{Log}
-use Rattle.path_core.specs.declared.event.SwitchPart.TheVariants.{Open, Mark}
+use Rattle.path_core.specs.declared.event.SwitchPart.TheVariants.{Clear, Open, Mark}
 use Rattle.path_core.specs.declared.event.Turn.TheVariants.{Flush}
 use Rattle.path_core.specs.declared.state.PathState.{PathState}
 use Rattle.path_core.specs.Parts.{untouched, seat_of, seat_table, marked_of, table_of}
@@ -56,6 +56,8 @@ module _ (x : PathState) (sized : IsSized x) (T : ClaimsTile x) (O : IsOrderly x
       (table_of x t) k M))
   keeps_marks (MoveCurrent by Append group) a t =
       marks_stay x W (MoveCurrent by Append group) a (λ b. b) t (λ w k h M. M)
+  keeps_marks (Switch by table m Clear) a t = marks_stay x W (Switch by table m Clear) a (λ b. b) t
+      (λ w k h M. M)
   keeps_marks (Switch by table m Open) a t = opens x sized O W by table m a t
   keeps_marks (Put by Synced value) a t = marks_stay x W (Put by Synced value) a (λ b. b) t
       (λ w k h M. M)

@@ -34,7 +34,6 @@ use Rattle.path_core.specs.declared.event.Event.TheVariants.{
 }
 use Rattle.path_core.specs.declared.event.SwitchPart.TheVariants.{Open, Mark}
 use Rattle.path_core.specs.declared.event.Turn.TheVariants.{Flush}
-use Rattle.path_core.specs.declared.seat.FlushTurn.{FlushTurn}
 use Rattle.path_core.specs.declared.seat.SeatTable.{SeatTable}
 use Rattle.path_core.specs.declared.seat.Switching.TheVariants.{
   Begun,
@@ -53,15 +52,8 @@ use Rattle.path_core.specs.Parts.{
   IsFinal,
 }
 use Rattle.path_core.specs.declared.state.Bound.TheVariants.{Raising, Live}
-use Rattle.path_core.specs.SeatParts.{
-  bound_found,
-  is_raising,
-  raised_to,
-  made_final,
-  reaches,
-  in_flush,
-}
-use Rattle.path_core.specs.SeatAfter.{raised_as_writer, raised_as_holder, new_flush}
+use Rattle.path_core.specs.SeatParts.{bound_found, is_raising, raised_to, made_final, reaches}
+use Rattle.path_core.specs.SeatAfter.{raised_as_writer, raised_as_holder, new_flush, newest_made}
 use Rattle.path_core.specs.Next.{next_of, with_memtable, with_bound}
 use Rattle.path_core.specs.declared.seat.Marked.{Marked}
 use Rattle.clog_base.specs.declared.position.Key.{Key}
@@ -166,12 +158,11 @@ module _ (x : PathState) (sized : IsSized x) (O : IsOrderly x) (W : SwitchesAre 
       (λ _ s. Marks x (Switch by table m Open) t s)
       (λ k h. at_table_set x table.0 _ a.is_there t (λ tb. MarkedIsRaising x.log tb k)
       (λ e. absurd (none-some k (marks_new
-      (in_flush (λ (turn : FlushTurn). record turn { newest = Some m })
-      (seat_table (seat_of x by) table.0)) (Begun m) k
+      (newest_made m (seat_table (seat_of x by) table.0)) (Begun m) k
       (sym (own_at x sized by table.0 t (λ (st : SeatTable). reaches (Begun m)
-      (in_flush (λ (turn : FlushTurn). record turn { newest = Some m }) st)) a.is_there e) ∙ h))))
+      (newest_made m st)) a.is_there e) ∙ h))))
       (λ n. W.marked by t k (sym (own_other x by table.0 t (λ (st : SeatTable). reaches (Begun m)
-      (in_flush (λ (turn : FlushTurn). record turn { newest = Some m }) st)) n) ∙ h)))
+      (newest_made m st)) n) ∙ h)))
       (λ w _ k h. at_table_set x table.0 _ a.is_there t (λ tb. MarkedIsRaising x.log tb k)
       (λ e. absurd (no_mark k (subst (λ u. MarkedIsRaising x.log (table_of x u) k) e
       (W.marked w t k h)))) (λ _. W.marked w t k h))

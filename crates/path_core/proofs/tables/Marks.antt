@@ -17,6 +17,7 @@ use Rattle.path_core.specs.declared.event.Event.TheVariants.{
 }
 use Rattle.path_core.specs.declared.event.Place.TheVariants.{Log}
 use Rattle.path_core.specs.declared.event.Reading.{Reading}
+use Rattle.path_core.specs.declared.event.SwitchPart.TheVariants.{Open, Mark}
 use Rattle.path_core.specs.declared.event.Turn.TheVariants.{Flush}
 use Rattle.path_core.specs.declared.seat.FlushTurn.{FlushTurn}
 use Rattle.path_core.specs.declared.seat.Seat.{Seat}
@@ -99,7 +100,8 @@ mark_of_stage s t = by (seat_table s t).flush
 -- Steps that may change what is marked.
 abbrev pub ChangesMark : Event → Type 0
 ChangesMark (Look by Log) = Unit {0}
-ChangesMark (Switch by table memtable part) = Unit {0}
+ChangesMark (Switch by table memtable Open) = Unit {0}
+ChangesMark (Switch by table memtable Mark) = Unit {0}
 ChangesMark (Raise by table memtable to) = Unit {0}
 ChangesMark (Finalise by table memtable) = Unit {0}
 ChangesMark (TakeTurn by (Flush table)) = Unit {0}

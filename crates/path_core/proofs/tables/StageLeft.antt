@@ -49,6 +49,7 @@ use Rattle.path_core.specs.declared.event.Place.TheVariants.{
 }
 use Rattle.path_core.specs.declared.event.Reading.{Reading}
 use Rattle.path_core.specs.declared.event.Reading.TheVariants.{Operations, Number, Limit}
+use Rattle.path_core.specs.declared.event.SwitchPart.TheVariants.{Clear, Open, Mark}
 use Rattle.path_core.specs.declared.event.Turn.TheVariants.{Sync, Flush}
 use Rattle.path_core.specs.declared.seat.FlushTurn.{FlushTurn}
 use Rattle.path_core.specs.declared.seat.Seat.{Seat}
@@ -86,7 +87,8 @@ stage_same (Some turn) f same = ap Some (same turn)
 abbrev pub ChangesStage : Event → Type 0
 ChangesStage (Look by Log) = Unit {0}
 ChangesStage (MoveCurrent by Write group) = Unit {0}
-ChangesStage (Switch by table memtable part) = Unit {0}
+ChangesStage (Switch by table memtable Open) = Unit {0}
+ChangesStage (Switch by table memtable Mark) = Unit {0}
 ChangesStage (Raise by table memtable to) = Unit {0}
 ChangesStage (Finalise by table memtable) = Unit {0}
 ChangesStage (TakeTurn by (Flush table)) = Unit {0}
@@ -163,7 +165,10 @@ stages_left (Advance by Write group) s found told u other = refl
 stages_left (Advance by Append group) s found told u other = refl
 stages_left (Claim by from to Entry) s found told u other = refl
 stages_left (Claim by from to Marker) s found told u other = refl
-stages_left (Switch by table memtable part) s found told u other = absurd (other tt)
+stages_left (Switch by table memtable Clear) s found told u other =
+    flush_left table.0 u _ s (λ turn. refl)
+stages_left (Switch by table memtable Open) s found told u other = absurd (other tt)
+stages_left (Switch by table memtable Mark) s found told u other = absurd (other tt)
 stages_left (Raise by table memtable to) s found told u other = absurd (other tt)
 stages_left (Finalise by table memtable) s found told u other = absurd (other tt)
 stages_left (TakeTurn by Sync) s found told u other = refl

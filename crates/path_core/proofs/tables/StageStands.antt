@@ -13,7 +13,7 @@ use Rattle.path_core.specs.declared.event.Event.TheVariants.{
   Finalise,
   Put,
 }
-use Rattle.path_core.specs.declared.event.SwitchPart.TheVariants.{Open, Mark}
+use Rattle.path_core.specs.declared.event.SwitchPart.TheVariants.{Clear, Open, Mark}
 use Rattle.path_core.specs.declared.seat.FlushTurn.{FlushTurn}
 use Rattle.path_core.specs.declared.seat.Switching.{Switching}
 use Rattle.path_core.specs.declared.seat.Switching.TheVariants.{
@@ -125,7 +125,9 @@ module _ (x : PathState) (C : IsLawfulCore x) where
   quiet_stands (Put by Stopped value) a other t = stands_itself (table_of x t)
   quiet_stands (MoveCurrent by Write group) a other t = absurd (other tt)
   quiet_stands (MoveCurrent by Append group) a other t = stands_itself (table_of x t)
-  quiet_stands (Switch by table m part) a other t = absurd (other tt)
+  quiet_stands (Switch by table m Clear) a other t = stands_itself (table_of x t)
+  quiet_stands (Switch by table m Open) a other t = absurd (other tt)
+  quiet_stands (Switch by table m Mark) a other t = absurd (other tt)
   quiet_stands (Raise by table m to) a other t = absurd (other tt)
   quiet_stands (Finalise by table m) a other t = absurd (other tt)
   quiet_stands e a other t = stands_itself (table_of x t)
@@ -136,6 +138,7 @@ module _ (x : PathState) (C : IsLawfulCore x) where
       ⊎ IsSome (seat_table (seat_of x (by_of e)) t).flush
   table_stands (MoveCurrent by Write group) a t = barred_unless_held x.write.current
       (seat_of x by).tables x.tables (TableStands (table_of x t)) t (stands_itself (table_of x t))
+  table_stands (Switch by table m Clear) a t = inl (stands_itself (table_of x t))
   table_stands (Switch by table m Open) a t = put_at x.tables table.0 _ fresh_table a.is_there
       (λ u tb. TableStands (table_of x u) tb ⊎ IsSome (seat_table (seat_of x by) u).flush)
       (inr a.row.0) (λ u _. inl (stands_itself (table_of x u))) t

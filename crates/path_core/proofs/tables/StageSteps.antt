@@ -58,15 +58,13 @@ use Rattle.path_core.specs.Parts.{
   IsFinal,
 }
 use Rattle.path_core.specs.Allowed.{IsStep}
-use Rattle.path_core.specs.SeatParts.{
-  in_flush,
-  bound_found,
-  is_raising,
-  raised_to,
-  made_final,
-  reaches,
+use Rattle.path_core.specs.SeatParts.{bound_found, is_raising, raised_to, made_final, reaches}
+use Rattle.path_core.specs.SeatAfter.{
+  raised_as_writer,
+  raised_as_holder,
+  raised_stage,
+  newest_made,
 }
-use Rattle.path_core.specs.SeatAfter.{raised_as_writer, raised_as_holder, raised_stage}
 use Rattle.path_core.specs.Next.{next_of, with_memtable, with_bound}
 use Rattle.path_core.specs.Lawful.{IsLawfulCore}
 use Rattle.path_core.specs.LawfulTables.{MarkedIsRaising}
@@ -106,8 +104,7 @@ module _ (x : PathState) (C : IsLawfulCore x) where
       → Own x C (Switch by table m Open) → (t : ℕ) → Staged (next_of x (Switch by table m Open)) t
       (stage_of (own_after x (Switch by table m Open)) t)
   opens by table m a K = at_one x C e a table.0 a.is_there
-      (λ (st : SeatTable). reaches (Begun m)
-      (in_flush (λ (turn : FlushTurn). record turn { newest = Some m }) st)) (λ t. refl)
+      (λ (st : SeatTable). reaches (Begun m) (newest_made m st)) (λ t. refl)
       (λ t n. get_or-set_other x.tables table.0 t _ fresh_table n)
       (reached _ _ (Begun m) (λ turn. refl) (next_of x e) table.0
       (subst (λ tb. IsBegun tb m) (sym (get_or-set_same x.tables table.0 after fresh_table
