@@ -38,6 +38,7 @@ function commit() {
 }
 function flush() {
     print "take-turn 0 flush 0"
+    print "switch 0 0 " memtable + 1 " clear"
     print "switch 0 0 " memtable + 1 " open"
     print "switch 0 0 " memtable " mark"
     print "look 0 log"

@@ -1,23 +1,6 @@
 -- What a flush that may have filed a memtable knows of its turns and of the desk, behind its steps.
-use Rattle.std.proofs.Common.{
-  ◌≡◌,
-  ℕ,
-  ◌<◌,
-  List,
-  ◌∷◌,
-  Option,
-  Some,
-  None,
-  is_some,
-  inl,
-  inr,
-  refl,
-  sym,
-  ap,
-  ◌∙◌,
-  subst,
-  ⊎_elim,
-}
+use Rattle.std.proofs.Common.{◌≡◌, ℕ, ◌<◌, List, [], ◌∷◌, Option, Some, None, is_some, inl, inr}
+use Rattle.std.proofs.Common.{refl, sym, ap, ◌∙◌, subst, ⊎_elim}
 use Rattle.std.proofs.lemmas.Option.{none-some, same_Some}
 use Rattle.std.specs.Option.{option_map}
 use Rattle.atomic_table.specs.Table.{Me, rest}
@@ -26,7 +9,7 @@ use Rattle.clog_base.specs.declared.cell.CellKey.{CellKey}
 use Rattle.path_core.specs.declared.event.Cursor.TheVariants.{Stopped, Synced}
 use Rattle.path_core.specs.declared.event.Event.{Event}
 use Rattle.path_core.specs.declared.event.Event.TheVariants.{Look}
-use Rattle.path_core.specs.declared.event.Place.TheVariants.{CursorWord}
+use Rattle.path_core.specs.declared.event.Place.TheVariants.{CursorWord, Log}
 use Rattle.path_core.specs.declared.seat.FlushTurn.{FlushTurn}
 use Rattle.path_core.specs.declared.seat.Issue.TheVariants.{Rest}
 use Rattle.path_core.specs.declared.seat.Seat.{Seat}
@@ -34,7 +17,7 @@ use Rattle.path_core.specs.declared.seat.SeatTable.{SeatTable}
 use Rattle.path_core.specs.declared.seat.Switching.{Switching}
 use Rattle.path_core.specs.declared.seat.Switching.TheVariants.{WithBarrier}
 use Rattle.path_core.specs.declared.seat.SyncTurn.{SyncTurn}
-use Rattle.path_core.specs.Parts.{seat_table, stage_of}
+use Rattle.path_core.specs.Parts.{issue_of, seat_table, stage_of}
 use Rattle.path_rule.specs.declared.lasting.Lasting.{Lasting}
 use Rattle.path_rule.specs.declared.slot.Slot.{Slot}
 use Rattle.path_rule.specs.declared.view.Hands.{Hands}
@@ -45,6 +28,7 @@ use Rattle.path_rule.specs.Desks.{HasDesk}
 use Rattle.path_rule.specs.Rounds.{IsQuiet, IsQuietStage, RoundSteps}
 use Rattle.path_rule.specs.TurnTold.{CarriesDesk}
 use Rattle.path_rule.proofs.seats.MayGives.{holds_still}
+use Rattle.path_rule.proofs.seats.RoundsGo.{one as round_one}
 use Rattle.path_flush.specs.FlushFilings.{AwaitsFile, HasBoth, IsBarred}
 use Rattle.path_flush.specs.FlushReads.{ReadSteps}
 use Rattle.path_flush.specs.FlushTurns.{HoldsBoth, IsHolder}
@@ -52,7 +36,8 @@ use Rattle.path_flush.proofs.FilingGoes.{holder_same}
 use Rattle.path_flush.proofs.SwitchGoes.{settled_quiet, stage_same}
 
 -- a round of a sync leaves the holder of a table's turn
-pub holder_round : (v after : View) (w t : ℕ) (puts : List Event) → RoundSteps w puts v after
+pub holder_round : {n : ℕ} (v after : View) (w t : ℕ) (puts : List Event)
+    → RoundSteps w n puts v after
     → IsQuiet (seat_table v.part t) → IsHolder t v → IsHolder t after
 holder_round v after w t puts R quiet H = let I = R.idles H.idle H.unclaimed in record {
   there = subst (λ z. t < z.tables) (sym R.size) H.there;
@@ -157,9 +142,28 @@ module _ {K : Type 0} (shows : K → Lasting) where
         (ap (λ (v : View). v.hands.progress) d.view) H.desk;
   }
 
+  -- behind a look at the log key
+  pub both_log : (m m' : Me (Slot K) View) (w t n : ℕ) → Did m.0 w (Look w Log) n m'.0
+      → m'.1 ≡ m.1 → IsQuiet (seat_table m.0.part t) → HasBoth shows t m → HasBoth shows t m'
+  both_log m m' w t n d boxes quiet H = record {
+    turns = record {
+      holder = holder_round m.0 m'.0 w t [] (round_one w (Look w Log) n m.0 m'.0 refl d) quiet
+          H.turns.holder;
+      holds = record {
+        held = ap (λ (v : View). is_some v.part.sync) d.view ∙ H.turns.holds.held;
+        issue = ap (λ (v : View). issue_of v.part) d.view ∙ H.turns.holds.issue;
+        empty = ap (λ (v : View). v.hands.box_taken) d.view ∙ H.turns.holds.empty;
+      };
+      alone = ap (λ (l : List (ℕ × Slot K)). rest l) boxes ∙ H.turns.alone;
+    };
+    desk = carries_same m m' boxes (ap (λ (v : View). v.hands.lasting) d.view)
+        (ap (λ (v : View). v.hands.pending) d.view)
+        (ap (λ (v : View). v.hands.progress) d.view) H.desk;
+  }
+
   -- a round of a sync leaves both turns
-  pub both_round : (m m' : Me (Slot K) View) (w t : ℕ) (puts : List Event)
-      → RoundSteps w puts m.0 m'.0 → IsQuiet (seat_table m.0.part t) → Holds Rest m'.0
+  pub both_round : {n : ℕ} (m m' : Me (Slot K) View) (w t : ℕ) (puts : List Event)
+      → RoundSteps w n puts m.0 m'.0 → IsQuiet (seat_table m.0.part t) → Holds Rest m'.0
       → HasDesk shows m'.0.hands.lasting m'.0.hands.pending m'.0.hands.progress m'.1
       → IsHolder t m.0 → HasBoth shows t m'
   both_round m m' w t puts R quiet rests D H =

@@ -1,22 +1,10 @@
 -- The key at which a memtable was made final is that at which it is found so.
-use Rattle.std.proofs.Common.{◌≡◌, ℕ, List, [], ◌∷◌, inl, inr, sym, ap, ◌∙◌, ⊎_elim}
+use Rattle.std.proofs.Common.{◌≡◌, ◌≤◌, ℕ, List, [], ◌∷◌, inl, inr, sym, ap, ◌∙◌, ⊎_elim, arith}
 use Rattle.path_core.specs.declared.event.Event.{Event}
-use Rattle.path_core.specs.declared.event.Event.TheVariants.{
-  Look,
-  Register,
-  Close,
-  OpenGroup,
-  MoveCurrent,
-  Expire,
-  Advance,
-  Claim,
-  Switch as SwitchStep,
-  Raise,
-  Finalise,
-  TakeTurn,
-  GiveTurn,
-  Put,
-}
+use Rattle.path_core.specs.declared.event.Event.TheVariants.{Look, Register, Close, OpenGroup}
+use Rattle.path_core.specs.declared.event.Event.TheVariants.{MoveCurrent, Expire, Advance, Claim}
+use Rattle.path_core.specs.declared.event.Event.TheVariants.{Switch as SwitchStep, Raise, Finalise}
+use Rattle.path_core.specs.declared.event.Event.TheVariants.{TakeTurn, GiveTurn, Put}
 use Rattle.path_core.specs.declared.seat.Seat.{Seat}
 use Rattle.path_core.specs.declared.state.Bound.{Bound}
 use Rattle.path_core.specs.declared.state.Bound.TheVariants.{Final}
@@ -60,3 +48,13 @@ same_final v w e t m key upper was F B =
     (ap (λ (q : Seat). (seat_table q t).bound) (sym was.part) ∙ B) in
     ap (λ (b : Bound). key_of_bound b)
     (sym known.stays ∙ was.tells.final t m key (final_finds w t m key v.trail F))
+
+-- It lies at or below the log key.
+pub final_below : (v : View) (w : ℕ) (e : Event) (t m upper : ℕ) → (was : Was v w e)
+    → FoundFinal t v.part m upper → upper ≤ was.core.log
+final_below v w e t m upper was B =
+    let known = (was.lawful.seats_know w).bounds t
+    (record { memtable = m; bound = Final (record { 0 = upper }) })
+    (ap (λ (q : Seat). (seat_table q t).bound) (sym was.part) ∙ B) in
+    let is = ap (λ (b : Bound). key_of_bound b) known.stays in
+    let low = (was.lawful.switches.tables t).bounds_rise.below_log m in omega (arith, is, low)

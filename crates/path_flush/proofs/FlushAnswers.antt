@@ -1,118 +1,60 @@
 -- What a flush answers, put together from the steps of its parts.
-use Rattle.std.proofs.Common.{
-  ◌≡◌,
-  ℕ,
-  ◌+◌,
-  ◌≤◌,
-  length,
-  List,
-  ◌++◌,
-  Some,
-  inl,
-  inr,
-  ⊎_elim,
-  refl,
-  sym,
-  ap,
-  ◌∙◌,
-  subst,
-  arith,
-}
+use Rattle.std.proofs.Common.{◌≡◌, ℕ, ◌+◌, ◌≤◌, length, List, ◌++◌, Some, inl, inr, ⊎_elim, refl}
+use Rattle.std.proofs.Common.{sym, ap, ◌∙◌, subst, arith}
 use Rattle.std.proofs.lemmas.Option.{none-some, same_Some}
 use Rattle.clog_base.specs.declared.cell.Table.{Table}
-use Rattle.op_core.specs.declared.count.Order.TheVariants.{Append, Write}
-use Rattle.path_core.specs.declared.event.Cursor.TheVariants.{OldestLive, Stopped as StoppedCursor}
+use Rattle.path_core.specs.declared.event.Cursor.TheVariants.{Stopped as StoppedCursor}
 use Rattle.path_core.specs.declared.event.Event.TheVariants.{Look}
-use Rattle.path_core.specs.declared.event.Place.TheVariants.{
-  Current,
-  CursorWord,
-  Newest,
-  TurnWord,
-}
+use Rattle.path_core.specs.declared.event.Place.TheVariants.{CursorWord, TurnWord}
 use Rattle.path_core.specs.declared.event.Turn.TheVariants.{Flush as FlushTurn}
 use Rattle.path_rule.specs.declared.view.OwnStep.{OwnStep}
 use Rattle.path_rule.specs.declared.view.PathSize.{PathSize}
 use Rattle.path_rule.specs.declared.view.View.{View}
 use Rattle.path_rule.specs.Calls.{acts, Did, FoundSince}
 use Rattle.path_rule.specs.Rounds.{WroteBelow}
-use Rattle.path_rule.proofs.seats.Answering.{found_after, found_before}
+use Rattle.path_rule.proofs.seats.Answering.{found_after}
 use Rattle.path_flush.specs.declared.flush_answer.Flush.{Flush}
-use Rattle.path_flush.specs.declared.flush_answer.Flush.TheVariants.{
-  Flushed,
-  Empty,
-  Busy,
-  Rows,
-  Stopped,
-  OutOfMemory,
-}
-use Rattle.path_flush.specs.declared.flush_turn.Memtables.TheVariants.{Full}
-use Rattle.path_flush.specs.declared.switch_answer.Row.TheVariants.{
-  Memtables,
-  WriteGroups,
-  AppendGroups,
-}
-use Rattle.path_flush.specs.Flushed.{Flushes, GotTurn, IsFlush, opened_by}
-use Rattle.path_flush.specs.FlushFilings.{
-  IsRetired,
-  Retired,
-  unless_retired,
-}
-use Rattle.path_flush.specs.FlushSteps.{
-  Finalises,
-  FinalisesOnly,
-  FindsAlone,
-  FlushSteps,
-  QuietSteps,
-  RetiresFiled,
-  RetiresNone,
-  SwitchesNone,
-  UnswitchedSteps,
-}
+use Rattle.path_flush.specs.declared.flush_answer.Flush.TheVariants.{Flushed, Empty, Busy, Stopped}
+use Rattle.path_flush.specs.declared.flush_answer.Flush.TheVariants.{OutOfMemory}
+use Rattle.path_flush.specs.Flushed.{Flushes, FlushesBy, GotTurn, IsFlush, opened_by}
+use Rattle.path_flush.specs.FlushFilings.{IsRetired, Retired, unless_retired}
+use Rattle.path_flush.specs.FlushSteps.{Finalises, FinalisesOnly, FindsAlone, FlushSteps}
+use Rattle.path_flush.specs.FlushSteps.{QuietSteps, RetiresFiled, RetiresNone, SwitchesNone}
+use Rattle.path_flush.specs.FlushSteps.{UnswitchedSteps}
 use Rattle.path_flush.specs.OwnWrites.{writes_of}
-use Rattle.path_flush.specs.FlushTurns.{FindsMemtables}
 use Rattle.path_flush.specs.Opens.{opens}
 use Rattle.path_flush.proofs.FilingGoes.{filed_behind, is_before, one_newer, unswitched}
 use Rattle.path_flush.proofs.FinalKeys.{same_final}
-use Rattle.path_flush.proofs.FlushAlone.{
-  alone_behind,
-  alone_none,
-  alone_since,
-  only_both,
-  only_none,
-}
+use Rattle.path_flush.proofs.FlushAlone.{alone_behind, alone_none, alone_since, only_both}
+use Rattle.path_flush.proofs.FlushAlone.{only_none}
 use Rattle.path_flush.proofs.FlushBarring.{final_before, final_behind}
-use Rattle.path_flush.proofs.FlushGoes.{next, one, same_list, still_wrote}
+use Rattle.path_flush.proofs.FlushGoes.{at_most, next, one, same_list, still_wrote}
 use Rattle.path_flush.proofs.FlushWaits.{waits_all, waits_behind, waits_none}
-use Rattle.path_flush.proofs.SwitchGoes.{
-  bound_behind,
-  bound_set,
-  free_after,
-  kept_both,
-  none_both,
-  retires_behind,
-  then_quiet,
-}
+use Rattle.path_flush.proofs.SwitchGoes.{bound_behind, bound_set, kept_both, none_both}
+use Rattle.path_flush.proofs.SwitchGoes.{retires_behind}
 use Rattle.path_flush.proofs.StepsOpen.{none_opened, opens_both}
 
 -- ---- behind the switch of this call
 
 -- what was set in a call is in the trail behind it
-set_since : (w t m key : ℕ) (v u : View) (newer before : List OwnStep) (S : FlushSteps w t v u)
+set_since : {n : ℕ} (w t m key : ℕ) (v u : View) (newer before : List OwnStep)
+    (S : FlushSteps w t n v u)
     → before ≡ newer ++ u.trail → Finalises w t m key S.steps → Finalises w t m key before
 set_since w t m key v u newer before S is F =
     subst (λ (l : List OwnStep). Finalises w t m key l)
     (sym (is ∙ ap (λ (l : List OwnStep). newer ++ l) S.trail))
     (final_behind w t m key newer (S.steps ++ v.trail) (final_before w t m key S.steps v.trail F))
 
-filed_is : (w t m lower upper key : ℕ) (v u after : View) (newer : List OwnStep)
-    (S : FlushSteps w t v u) → Finalises w t m key S.steps → RetiresFiled w t m lower upper u after
+filed_is : {n : ℕ} (w t m lower upper key : ℕ) (v u after : View) (newer : List OwnStep)
+    (S : FlushSteps w t n v u) → Finalises w t m key S.steps
+    → RetiresFiled w t m lower upper u after
     → upper ≡ key
 filed_is w t m lower upper key v u after newer S F E = let r = E.retires in
     same_final r.before w _ t m key upper r.was
     (set_since w t m key v u r.since.newer r.before.trail S r.since.is F) E.final
 
-flushed_is : (w t m key : ℕ) (v u after : View) (a : Flush) (newer : List OwnStep)
-    (S : FlushSteps w t v u) → Finalises w t m key S.steps → RetiresNone S.steps
+flushed_is : {n : ℕ} (w t m key : ℕ) (v u after : View) (a : Flush) (newer : List OwnStep)
+    (S : FlushSteps w t n v u) → Finalises w t m key S.steps → RetiresNone S.steps
     → WroteBelow key after.trail → IsRetired w t m u a newer after
     → IsFlush w t v a (newer ++ S.steps) after
 flushed_is w t m key v u after (Flushed lower upper) newer S F K W I = (
@@ -128,18 +70,6 @@ flushed_is w t m key v u after (Empty found) newer S F K W I = let r = I.0.0 in 
   retires_behind w w t m v u after refl S I.0,
 )
 flushed_is w t m key v u after (Busy found) newer S F K W I = absurd I
-flushed_is w t m key v u after (Rows Memtables made) newer S F K W I = absurd I.0
-flushed_is w t m key v u after (Rows WriteGroups made) newer S F K W I = absurd I.0
-flushed_is w t m key v u after (Rows AppendGroups made) newer S F K W I = (
-  I.0.0,
-  I.0.1,
-  (
-    I.0.2.0,
-    found_after (Current Append) I.0.0 newer S.steps I.0.2.1,
-    found_after (CursorWord StoppedCursor) 0 newer S.steps I.0.2.2,
-  ),
-  waits_all w t (newer ++ S.steps) (kept_both newer S.steps I.1 K),
-)
 flushed_is w t m key v u after (Stopped at_open now) newer S F K W I = (
   I.0.0 ∙ ap (λ (z : PathSize). z.at_open) S.size,
   I.0.1,
@@ -156,11 +86,11 @@ flushed_is w t m key v u after (Stopped at_open now) newer S F K W I = (
 flushed_is w t m key v u after OutOfMemory newer S F K W I =
     waits_all w t (newer ++ S.steps) (kept_both newer S.steps I K)
 
-pub got_turn : (w t m : ℕ) (v after : View) (a : Flush) → Retired w t m v a after → GotTurn a
+pub got_turn : {n : ℕ} (w t m : ℕ) (v after : View) (a : Flush) → Retired w t m n v a after
+    → GotTurn a
 got_turn w t m v after (Flushed lower upper) R = tt
 got_turn w t m v after (Empty key) R = tt
 got_turn w t m v after (Busy found) R = absurd R.is
-got_turn w t m v after (Rows row made) R = tt
 got_turn w t m v after (Stopped at_open now) R = tt
 got_turn w t m v after OutOfMemory R = tt
 
@@ -170,42 +100,40 @@ may_open : (w t m : ℕ) (v after : View) (a : Flush) (steps : List OwnStep)
 may_open w t m v after (Flushed lower upper) steps I = omega arith
 may_open w t m v after (Empty key) steps I = omega arith
 may_open w t m v after (Busy found) steps I = absurd I
-may_open w t m v after (Rows Memtables made) steps I = absurd I.0
-may_open w t m v after (Rows WriteGroups made) steps I = absurd I.0
-may_open w t m v after (Rows AppendGroups made) steps I = omega arith
 may_open w t m v after (Stopped at_open now) steps I = omega arith
 may_open w t m v after OutOfMemory steps I = omega arith
 
 -- ---- with the steps behind it that give the turns back
 
-record RetiredBy (w t m : ℕ) (v : View) (a : Flush) (after : View) : Type 0 where
-  made : FlushSteps w t v after
+record RetiredBy (w t m n : ℕ) (v : View) (a : Flush) (after : View) : Type 0 where
+  made : FlushSteps w t n v after
   none : SwitchesNone made.steps
   is : IsRetired w t m v a made.steps after
 
-retired_on : (r z t m : ℕ) (u x after : View) (a : Flush) → r ≡ z → Retired z t m u a x
-    → QuietSteps r t x after → RetiredBy z t m u a after
+retired_on : {n : ℕ} (r z t m : ℕ) (u x after : View) (a : Flush) → r ≡ z
+    → Retired z t m n u a x → QuietSteps r t 0 x after → RetiredBy z t m n u a after
 retired_on r z t m u x after a same R L = record {
-  made = next z r u x after same R.steps.made.made L.made;
+  made = at_most z u after (omega arith) (next z r u x after same R.steps.made.made L.made);
   none = none_both L.made.steps R.steps.made.made.steps L.none R.steps.made.none;
   is = is_before z r t m u x after a R.steps.made.made.steps R.is L.made L.kept;
 }
 
--- A flush that switches memtable m answers this: it makes no other one final.
-pub record FlushesNewest (w t m : ℕ) (v : View) (answer : Flush) (after : View) : Type 0 where
-  pub steps : FlushSteps w t v after
+-- A flush that switches memtable m answers this: it makes no other one final, and issues at most n
+-- barriers.
+pub record FlushesNewest (w t m n : ℕ) (v : View) (answer : Flush) (after : View) : Type 0 where
+  pub steps : FlushSteps w t n v after
   pub opened : opens t steps.steps ≤ opened_by answer
   pub only : FinalisesOnly t m steps.steps
   pub list : writes_of after.trail ≡ writes_of v.trail
   pub is : IsFlush w t v answer steps.steps after
 
 pub flushed : (w z t m key : ℕ) (v u x after : View) (a : Flush) → z ≡ w → (r : ℕ) → r ≡ z
-    → (S : FlushSteps w t v u) → Finalises w t m key S.steps → FinalisesOnly t m S.steps
-    → RetiresNone S.steps → opens t S.steps ≤ 1 → WroteBelow key u.trail → Retired z t m u a x
-    → QuietSteps r t x after → FlushesNewest w t m v a after
+    → (S : FlushSteps w t 1 v u) → Finalises w t m key S.steps → FinalisesOnly t m S.steps
+    → RetiresNone S.steps → opens t S.steps ≤ 1 → WroteBelow key u.trail
+    → Retired z t m 1 u a x → QuietSteps r t 0 x after → FlushesNewest w t m 2 v a after
 flushed w z t m key v u x after a same r number S F O K one_most W R L =
     let B = retired_on r z t m u x after a number R L in
-    let E = subst (λ k. RetiredBy k t m u a after) same B in
+    let E = subst (λ k. RetiredBy k t m 1 u a after) same B in
     let made = next w w v u after refl S E.made in record {
       steps = made;
       opened = let none = none_opened t E.made.steps E.none in
@@ -226,12 +154,6 @@ left_is : (w t m : ℕ) (v u after : View) (a told : Flush) (steps : List OwnSte
 left_is w t m v u after a (Flushed lower upper) steps is none I = absurd (none-some a (sym is))
 left_is w t m v u after a (Empty key) steps is none I = absurd (none-some a (sym is))
 left_is w t m v u after a (Busy found) steps is none I = absurd I
-left_is w t m v u after a (Rows Memtables made) steps is none I = absurd I.0
-left_is w t m v u after a (Rows WriteGroups made) steps is none I = absurd I.0
-left_is w t m v u after a (Rows AppendGroups made) steps is none I =
-    subst (λ (b : Flush). IsFlush w t v b steps after)
-    (sym (same_Some a (Rows AppendGroups made) is))
-    (I.0.0, I.0.1, I.0.2, waits_none w t steps none)
 left_is w t m v u after a (Stopped at_open now) steps is none I =
     subst (λ (b : Flush). IsFlush w t v b steps after)
     (sym (same_Some a (Stopped at_open now) is))
@@ -240,13 +162,13 @@ left_is w t m v u after a OutOfMemory steps is none I =
     subst (λ (b : Flush). IsFlush w t v b steps after) (sym (same_Some a OutOfMemory is))
     (waits_none w t steps none)
 
-pub left_then : (w z t m : ℕ) (v u after : View) (a told : Flush) → z ≡ w
-    → Some a ≡ unless_retired told → Retired w t m v told u → QuietSteps z t u after
-    → Flushes w t v a after
+pub left_then : {n : ℕ} (w z t m : ℕ) (v u after : View) (a told : Flush) → z ≡ w
+    → Some a ≡ unless_retired told → Retired w t m n v told u → QuietSteps z t 0 u after
+    → FlushesBy w t n v a after
 left_then w z t m v u after a told same is R L = let S = R.steps.made in
     let made = next w z v u after same S.made L.made in
     let none = none_both L.made.steps S.made.steps L.none S.none in record {
-      steps = made;
+      steps = at_most w v after (omega arith) made;
       opened = let no_more = none_opened t (L.made.steps ++ S.made.steps) none in
           omega (arith, no_more);
       alone = alone_none t (L.made.steps ++ S.made.steps) none;
@@ -255,13 +177,11 @@ left_then w z t m v u after a told same is R L = let S = R.steps.made in
           (is_before w z t m v u after told S.made.steps R.is L.made L.kept);
     }
 
-pub left_turn : (w t m : ℕ) (v after : View) (a told : Flush) → Some a ≡ unless_retired told
-    → Retired w t m v told after → GotTurn a
+pub left_turn : {n : ℕ} (w t m : ℕ) (v after : View) (a told : Flush)
+    → Some a ≡ unless_retired told → Retired w t m n v told after → GotTurn a
 left_turn w t m v after a (Flushed lower upper) is R = absurd (none-some a (sym is))
 left_turn w t m v after a (Empty key) is R = absurd (none-some a (sym is))
 left_turn w t m v after a (Busy found) is R = absurd R.is
-left_turn w t m v after a (Rows row made) is R =
-    subst (λ (b : Flush). GotTurn b) (sym (same_Some a (Rows row made) is)) tt
 left_turn w t m v after a (Stopped at_open now) is R =
     subst (λ (b : Flush). GotTurn b) (sym (same_Some a (Stopped at_open now) is)) tt
 left_turn w t m v after a OutOfMemory is R =
@@ -269,8 +189,8 @@ left_turn w t m v after a OutOfMemory is R =
 
 -- ---- an answer behind steps that switched nothing
 
-is_later : (w t : ℕ) (v u after : View) (a : Flush) (steps : List OwnStep)
-    (Q : UnswitchedSteps w t v u) → GotTurn a → IsFlush w t u a steps after
+is_later : {n : ℕ} (w t : ℕ) (v u after : View) (a : Flush) (steps : List OwnStep)
+    (Q : UnswitchedSteps w t n v u) → GotTurn a → IsFlush w t u a steps after
     → IsFlush w t v a (steps ++ Q.made.steps) after
 is_later w t v u after (Flushed lower upper) steps Q got I = (
   I.0,
@@ -283,38 +203,6 @@ is_later w t v u after (Empty key) steps Q got I = (
   retires_behind w w t I.0 v u after refl Q.made I.2,
 )
 is_later w t v u after (Busy found) steps Q got I = absurd got
-is_later w t v u after (Rows Memtables made) steps Q got I = (
-  I.0,
-  I.1,
-  (
-    I.2.0,
-    none_both steps Q.made.steps I.2.1 Q.none,
-    found_after (Newest (record { 0 = t })) I.0 steps Q.made.steps I.2.2,
-    found_after (CursorWord (OldestLive (record { 0 = t }))) I.0 steps Q.made.steps I.2.3,
-  ),
-  waits_behind w t steps Q.made.steps Q.none I.3,
-)
-is_later w t v u after (Rows WriteGroups made) steps Q got I = (
-  I.0,
-  I.1,
-  (
-    I.2.0,
-    none_both steps Q.made.steps I.2.1 Q.none,
-    found_after (Current Write) I.0 steps Q.made.steps I.2.2,
-    free_after t steps Q.made.steps I.2.3,
-  ),
-  waits_behind w t steps Q.made.steps Q.none I.3,
-)
-is_later w t v u after (Rows AppendGroups made) steps Q got I = (
-  I.0,
-  I.1,
-  (
-    I.2.0,
-    found_after (Current Append) I.0 steps Q.made.steps I.2.1,
-    found_after (CursorWord StoppedCursor) 0 steps Q.made.steps I.2.2,
-  ),
-  waits_behind w t steps Q.made.steps Q.none I.3,
-)
 is_later w t v u after (Stopped at_open now) steps Q got I = (
   I.0 ∙ ap (λ (z : PathSize). z.at_open) Q.made.size,
   I.1,
@@ -330,9 +218,11 @@ is_later w t v u after (Stopped at_open now) steps Q got I = (
 )
 is_later w t v u after OutOfMemory steps Q got I = waits_behind w t steps Q.made.steps Q.none I
 
-pub later : (w z t : ℕ) (v u after : View) (a : Flush) → z ≡ w → UnswitchedSteps w t v u → GotTurn a
-    → Flushes z t u a after → Flushes w t v a after
-later w z t v u after a same Q got R = let S = subst (λ k. Flushes k t u a after) same R in
+pub later : {m n : ℕ} (w z t : ℕ) (v u after : View) (a : Flush) → z ≡ w
+    → UnswitchedSteps w t m v u → GotTurn a → FlushesBy z t n u a after
+    → FlushesBy w t (n + m) v a after
+later {n = n} w z t v u after a same Q got R =
+    let S = subst (λ k. FlushesBy k t n u a after) same R in
     let made = next w w v u after refl Q.made S.steps in record {
       steps = made;
       opened = let none = none_opened t Q.made.steps Q.none in
@@ -344,11 +234,11 @@ later w z t v u after a same Q got R = let S = subst (λ k. Flushes k t u a afte
     }
 
 -- one that switches the memtable which was found alone
-pub newest_later : (w z t m : ℕ) (v u after : View) (a : Flush) → z ≡ w → (Q : QuietSteps w t v u)
-    → GotTurn a → FindsAlone t m Q.made.steps → FlushesNewest z t m u a after
-    → Flushes w t v a after
+pub newest_later : (w z t m : ℕ) (v u after : View) (a : Flush) → z ≡ w
+    → (Q : QuietSteps w t 0 v u) → GotTurn a → FindsAlone t m Q.made.steps
+    → FlushesNewest z t m 2 u a after → FlushesBy w t 2 v a after
 newest_later w z t m v u after a same Q got F R =
-    let S = subst (λ k. FlushesNewest k t m u a after) same R in
+    let S = subst (λ k. FlushesNewest k t m 2 u a after) same R in
     let made = next w w v u after refl Q.made S.steps in record {
       steps = made;
       opened = let none = none_opened t Q.made.steps Q.none in
@@ -379,24 +269,22 @@ busy w n t v after d is = let e = Look w (TurnWord (FlushTurn t)) in
       );
     }
 
-pub full : (w z t n : ℕ) (v u after : View) → z ≡ w → FindsMemtables t (Full n) v u w
-    → QuietSteps z t u after → Flushes w t v (Rows Memtables (n + 1)) after
-full w z t n v u after same F L = let Q = then_quiet w z v u after same F.0 L in
-    let oldest = CursorWord (OldestLive (record { 0 = t })) in
-    let newest = Newest (record { 0 = t }) in let all = F.1 in record {
-      steps = Q.made;
-      opened = let none = none_opened t Q.made.steps Q.none in omega (arith, none);
-      alone = alone_none t Q.made.steps Q.none;
-      list = same_list w v after Q.made;
-      is = (
-        n,
-        omega arith,
-        (
-          omega (arith, all),
-          Q.none,
-          found_before newest n L.made.steps F.0.made.steps F.2,
-          found_before oldest n L.made.steps F.0.made.steps F.3,
-        ),
-        waits_none w t Q.made.steps Q.none,
-      );
-    }
+-- behind an answer for which the seat did not only look as many barriers as a flush issues at most
+pub took_all : (w t : ℕ) (v after : View) (a : Flush) → GotTurn a → FlushesBy w t 3 v a after
+    → Flushes w t v a after
+took_all w t v after (Flushed lower upper) got F = F
+took_all w t v after (Empty key) got F = F
+took_all w t v after (Busy found) got F = absurd got
+took_all w t v after (Stopped at_open now) got F = F
+took_all w t v after OutOfMemory got F = F
+
+-- the same, where more may have been issued
+pub more_flushed : {m n : ℕ} (w t : ℕ) (v after : View) (a : Flush) → m ≤ n
+    → FlushesBy w t m v a after → FlushesBy w t n v a after
+more_flushed w t v after a up F = record {
+  steps = at_most w v after up F.steps;
+  opened = F.opened;
+  alone = F.alone;
+  list = F.list;
+  is = F.is;
+}

@@ -1,24 +1,6 @@
 -- What a seat with both turns knows behind steps of barriers and syncs, and behind a switch.
-use Rattle.std.proofs.Common.{
-  ◌≡◌,
-  ⊎_elim,
-  inl,
-  inr,
-  ℕ,
-  ◌<◌,
-  false,
-  List,
-  [],
-  ◌∷◌,
-  ◌++◌,
-  Option,
-  IsTrue,
-  is_some,
-  sym,
-  ap,
-  ◌∙◌,
-  subst,
-}
+use Rattle.std.proofs.Common.{◌≡◌, ⊎_elim, inl, inr, ℕ, ◌<◌, false, List, [], ◌∷◌, ◌++◌, Option}
+use Rattle.std.proofs.Common.{IsTrue, is_some, sym, ap, ◌∙◌, subst}
 use Rattle.std.proofs.lemmas.Option.{none-some}
 use Rattle.std.specs.Option.{option_map_or}
 use Rattle.atomic_table.specs.Table.{Me}
@@ -51,7 +33,7 @@ module _ {K : Type 0} (shows : K → Lasting) where
       HasDesk shows q.0.lasting q.0.pending q.0.progress q.1) (λ i. (sym hands i, sym boxes i)) D
 
   -- behind steps of barriers and syncs
-  pub both_still : (m m' : Me (Slot K) View) (w t : ℕ) → RoundSteps w [] m.0 m'.0
+  pub both_still : {n : ℕ} (m m' : Me (Slot K) View) (w t : ℕ) → RoundSteps w n [] m.0 m'.0
       → IsTrue (is_some (seat_table m'.0.part t).flush) → Holds Rest m'.0
       → m'.0.hands ≡ m.0.hands → m'.1 ≡ m.1 → HoldsBoth shows t m → HoldsBoth shows t m'
   both_still m m' w t R held rests hands boxes H =

@@ -1,42 +1,25 @@
 -- What the steps of a flush leave, one by one and together.
-use Rattle.std.proofs.Common.{◌≡◌, ℕ, List, [], ◌∷◌, ◌++◌, refl, sym, ap, ◌∙◌, subst, None}
+use Rattle.std.proofs.Common.{◌≡◌, ◌+◌, ◌≤◌, ℕ, cond, List, [], ◌∷◌, ◌++◌, refl, sym, ap, ◌∙◌}
+use Rattle.std.proofs.Common.{subst, arith, None}
 use Rattle.std.proofs.lemmas.List.{append_assoc}
 use Rattle.path_core.specs.declared.event.ClaimKind.TheVariants.{Entry, Marker}
 use Rattle.path_core.specs.declared.event.Cursor.TheVariants.{Synced, OldestLive, Stopped}
 use Rattle.path_core.specs.declared.event.Event.{Event}
-use Rattle.path_core.specs.declared.event.Event.TheVariants.{
-  Look,
-  Register,
-  Close,
-  OpenGroup,
-  MoveCurrent,
-  Expire,
-  Advance,
-  Claim,
-  Switch,
-  Raise,
-  Finalise,
-  TakeTurn,
-  GiveTurn,
-  Put,
-}
-use Rattle.path_core.specs.declared.event.Place.TheVariants.{
-  Count,
-  Current,
-  Oldest,
-  Log,
-  Newest,
-  Bound as BoundOf,
-  TurnWord,
-  CursorWord,
-}
+use Rattle.path_core.specs.declared.event.Event.TheVariants.{Look, Register, Close, OpenGroup}
+use Rattle.path_core.specs.declared.event.Event.TheVariants.{MoveCurrent, Expire, Advance, Claim}
+use Rattle.path_core.specs.declared.event.Event.TheVariants.{Switch, Raise, Finalise, TakeTurn}
+use Rattle.path_core.specs.declared.event.Event.TheVariants.{GiveTurn, Put}
+use Rattle.path_core.specs.declared.event.Place.TheVariants.{Count, Current, Oldest, Log, Newest}
+use Rattle.path_core.specs.declared.event.Place.TheVariants.{Bound as BoundOf, TurnWord, CursorWord}
 use Rattle.path_core.specs.declared.event.Turn.TheVariants.{Sync, Flush}
 use Rattle.path_core.specs.declared.note.EntryNote.{EntryNote}
 use Rattle.path_rule.specs.declared.view.Hands.{Hands}
 use Rattle.path_rule.specs.declared.view.OwnStep.{OwnStep}
 use Rattle.path_rule.specs.declared.view.View.{View}
 use Rattle.path_rule.specs.Calls.{DidAs}
+use Rattle.path_rule.specs.Issued.{is_issue, issued_in}
 use Rattle.path_rule.specs.Rounds.{AreRoundSteps, EndsBelow, IsRoundStep, RoundSteps, WroteBelow}
+use Rattle.path_rule.proofs.log.Issues.{issued_both}
 use Rattle.path_flush.specs.OwnWrites.{with_write, writes_of}
 use Rattle.path_flush.specs.FlushSteps.{AreFlushSteps, FlushSteps, IsFlushStep}
 
@@ -65,7 +48,7 @@ list_stays w t [] us A = refl
 list_stays w t (s ∷ ts) us A =
     adds_none w t s.event (writes_of (ts ++ us)) A.0 ∙ list_stays w t ts us A.1
 
-pub same_list : {t : ℕ} (w : ℕ) (v after : View) → FlushSteps w t v after
+pub same_list : {t n : ℕ} (w : ℕ) (v after : View) → FlushSteps w t n v after
     → writes_of after.trail ≡ writes_of v.trail
 same_list {t} w v after S = ap writes_of S.trail ∙ list_stays w t S.steps v.trail S.are
 
@@ -92,7 +75,7 @@ wrote_still w t key [] us A B = B
 wrote_still w t key (s ∷ ts) us A B =
     (ends_still w t key s.event A.0, wrote_still w t key ts us A.1 B)
 
-pub still_wrote : {t : ℕ} (w key : ℕ) (v after : View) → FlushSteps w t v after
+pub still_wrote : {t n : ℕ} (w key : ℕ) (v after : View) → FlushSteps w t n v after
     → WroteBelow key v.trail → WroteBelow key after.trail
 still_wrote {t} w key v after S B =
     subst (λ l. WroteBelow key l) (sym S.trail) (wrote_still w t key S.steps v.trail S.are B)
@@ -100,11 +83,12 @@ still_wrote {t} w key v after S B =
 -- ---- steps together
 
 abbrev pub one : {t : ℕ} (w : ℕ) (e : Event) (n : ℕ) (h : Hands) (v after : View)
-    → IsFlushStep w t e → DidAs v w e n h after → FlushSteps w t v after
+    → IsFlushStep w t e → DidAs v w e n h after → FlushSteps w t (cond (is_issue e) 1 0) v after
 one {t} w e n h v after is d = record {
   steps = record { event = e; found = n; filed = None } ∷ [];
   trail = ap (λ (u : View). u.trail) d.view;
   are = (is, tt);
+  issues = omega arith;
   returned = ap (λ (u : View). u.returned) d.view;
   size = ap (λ (u : View). u.size) d.view;
 }
@@ -114,25 +98,31 @@ pub are_both : (w t : ℕ) (ts us : List OwnStep) → AreFlushSteps w t ts → A
 are_both w t [] us A B = B
 are_both w t (s ∷ ts) us A B = (A.0, are_both w t ts us A.1 B)
 
-abbrev pub both : {t : ℕ} (w : ℕ) (v u after : View) → FlushSteps w t v u → FlushSteps w t u after
-    → FlushSteps w t v after
+pub few_both : {a b : ℕ} (ts us : List OwnStep) → issued_in ts ≤ b → issued_in us ≤ a
+    → issued_in (ts ++ us) ≤ b + a
+few_both ts us more first = let all = issued_both ts us in omega (arith, all, more, first)
+
+abbrev pub both : {t a b : ℕ} (w : ℕ) (v u after : View) → FlushSteps w t a v u
+    → FlushSteps w t b u after → FlushSteps w t (b + a) v after
 both {t} w v u after A B = record {
   steps = B.steps ++ A.steps;
   trail = B.trail ∙ (ap (λ l. B.steps ++ l) A.trail
       ∙ sym (append_assoc B.steps A.steps v.trail));
   are = are_both w t B.steps A.steps B.are A.are;
+  issues = few_both B.steps A.steps B.issues A.issues;
   returned = B.returned ∙ A.returned;
   size = B.size ∙ A.size;
 }
 
 -- the same, where the number of the seat is told anew
-abbrev pub next : {t : ℕ} (w z : ℕ) (v u after : View) → z ≡ w → FlushSteps w t v u
-    → FlushSteps z t u after → FlushSteps w t v after
+abbrev pub next : {t a b : ℕ} (w z : ℕ) (v u after : View) → z ≡ w → FlushSteps w t a v u
+    → FlushSteps z t b u after → FlushSteps w t (b + a) v after
 next {t} w z v u after same A B = record {
   steps = B.steps ++ A.steps;
   trail = B.trail ∙ (ap (λ l. B.steps ++ l) A.trail
       ∙ sym (append_assoc B.steps A.steps v.trail));
   are = are_both w t B.steps A.steps (subst (λ k. AreFlushSteps k t B.steps) same B.are) A.are;
+  issues = few_both B.steps A.steps B.issues A.issues;
   returned = B.returned ∙ A.returned;
   size = B.size ∙ A.size;
 }
@@ -173,12 +163,32 @@ pub round_all : (w t : ℕ) (ts : List OwnStep) → AreRoundSteps w ts → AreFl
 round_all w t [] A = tt
 round_all w t (s ∷ ts) A = (round_step w t s.event A.0, round_all w t ts A.1)
 
-abbrev pub of_round : {t : ℕ} (w : ℕ) (puts : List Event) (v after : View)
-    → RoundSteps w puts v after → FlushSteps w t v after
+abbrev pub of_round : {t n : ℕ} (w : ℕ) (puts : List Event) (v after : View)
+    → RoundSteps w n puts v after → FlushSteps w t n v after
 of_round {t} w puts v after S = record {
   steps = S.steps;
   trail = S.trail;
   are = round_all w t S.steps S.are;
+  issues = S.issues;
   returned = S.returned;
   size = S.size;
 }
+
+-- ---- how many barriers were issued
+
+-- the same steps, where more may be of that kind
+abbrev pub at_most : {t a b : ℕ} (w : ℕ) (v after : View) → a ≤ b → FlushSteps w t a v after
+    → FlushSteps w t b v after
+at_most w v after up S = record {
+  steps = S.steps;
+  trail = S.trail;
+  are = S.are;
+  issues = (let few = S.issues in omega (arith, few, up));
+  returned = S.returned;
+  size = S.size;
+}
+
+pub issued_by : {t n : ℕ} (w : ℕ) (v after : View) → FlushSteps w t n v after
+    → issued_in after.trail ≤ n + issued_in v.trail
+issued_by w v after S = let all = ap issued_in S.trail in
+    let both = issued_both S.steps v.trail in let few = S.issues in omega (arith, all, both, few)

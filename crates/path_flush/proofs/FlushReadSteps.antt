@@ -1,24 +1,6 @@
 -- What the steps by which a memtable is read leave of its reader.
-use Rattle.std.proofs.Common.{
-  ◌≡◌,
-  ℕ,
-  zero,
-  suc,
-  ◌+◌,
-  Bool,
-  true,
-  false,
-  if◌then◌else◌,
-  [],
-  Option,
-  Some,
-  None,
-  refl,
-  sym,
-  ap,
-  ◌∙◌,
-  subst,
-}
+use Rattle.std.proofs.Common.{◌≡◌, ℕ, zero, suc, ◌+◌, Bool, true, false, if◌then◌else◌, [], Option}
+use Rattle.std.proofs.Common.{Some, None, refl, sym, ap, ◌∙◌, subst, arith}
 use Rattle.std.specs.Option.{option_map}
 use Rattle.clog_base.specs.declared.cell.Table.{Table}
 use Rattle.path_core.specs.declared.event.Event.TheVariants.{Look}
@@ -30,15 +12,8 @@ use Rattle.path_core.specs.declared.seat.Switching.{Switching}
 use Rattle.path_core.specs.declared.state.Bound.{Bound}
 use Rattle.path_core.specs.Parts.{is_at, seat_table, stage_of}
 use Rattle.path_core.specs.SeatAfter.{Told, seat_after}
-use Rattle.path_core.specs.SeatParts.{
-  bound_found,
-  deposited_end,
-  in_flush,
-  is_final_below,
-  takes,
-  tried,
-  tries_bound,
-}
+use Rattle.path_core.specs.SeatParts.{bound_found, deposited_end, in_flush, is_final_below, takes}
+use Rattle.path_core.specs.SeatParts.{tried, tries_bound}
 use Rattle.path_core.specs.Words.{place_of}
 use Rattle.path_core.proofs.seats.Columns.{at_table_keeps, Columns}
 use Rattle.path_core.proofs.seats.StepColumns.{columns}
@@ -163,7 +138,14 @@ then_read w z t v u after same A B = record {
 
 pub none_read_yet : (w t : ℕ) (v : View) → ReadSteps w t v v
 none_read_yet w t v = record {
-  made = record { steps = []; trail = refl; are = tt; returned = refl; size = refl };
+  made = record {
+    steps = [];
+    trail = refl;
+    are = tt;
+    issues = omega arith;
+    returned = refl;
+    size = refl;
+  };
   none = tt;
   kept = tt;
   sync = refl;

@@ -1,58 +1,28 @@
 -- What the steps of a switch leave of what its holder found of the least memtable.
-use Rattle.std.proofs.Common.{
-  ◌≡◌,
-  ℕ,
-  Bool,
-  true,
-  false,
-  ◌&&◌,
-  if◌then◌else◌,
-  Option,
-  Some,
-  None,
-  is_some,
-  refl,
-  ap,
-  ◌∙◌,
-}
+use Rattle.std.proofs.Common.{◌≡◌, ℕ, Bool, true, false, ◌&&◌, if◌then◌else◌, Option, Some, None}
+use Rattle.std.proofs.Common.{is_some, refl, ap, ◌∙◌}
 use Rattle.std.proofs.Math.ListN.{get_or-map as get_or-map_default}
 use Rattle.std.proofs.lemmas.Option.{none-some}
 use Rattle.std.specs.Option.{option_and_then, option_map}
 use Rattle.clog_base.specs.declared.cell.Table.{Table}
 use Rattle.clog_base.specs.declared.position.Key.{Key}
-use Rattle.path_core.specs.declared.event.Event.TheVariants.{
-  Look,
-  Switch,
-  Raise,
-  Finalise,
-}
+use Rattle.path_core.specs.declared.event.Event.TheVariants.{Look, Switch, Raise, Finalise}
 use Rattle.path_core.specs.declared.event.Cursor.TheVariants.{OldestLive}
 use Rattle.path_core.specs.declared.event.Place.TheVariants.{CursorWord, Log, Newest}
-use Rattle.path_core.specs.declared.event.SwitchPart.TheVariants.{Open as OpenPart, Mark}
+use Rattle.path_core.specs.declared.event.SwitchPart.TheVariants.{Clear, Open as OpenPart, Mark}
 use Rattle.path_core.specs.declared.seat.FlushTurn.{FlushTurn}
 use Rattle.path_core.specs.declared.seat.Seat.{Seat}
 use Rattle.path_core.specs.declared.seat.SeatTable.{SeatTable}
 use Rattle.path_core.specs.declared.seat.Switching.{Switching}
-use Rattle.path_core.specs.declared.seat.Switching.TheVariants.{
-  Begun,
-  Marked as MarkedStage,
-  Waiting,
-}
+use Rattle.path_core.specs.declared.seat.Switching.TheVariants.{Begun, Marked as MarkedStage}
+use Rattle.path_core.specs.declared.seat.Switching.TheVariants.{Waiting}
 use Rattle.path_core.specs.declared.state.Bound.{Bound}
 use Rattle.path_core.specs.declared.state.Bound.TheVariants.{Raising}
 use Rattle.path_core.specs.Parts.{is_at, seat_table, stage_of, untouched}
-use Rattle.path_core.specs.SeatAfter.{raised_as_holder, raised_as_writer, raised_stage}
-use Rattle.path_core.specs.SeatParts.{
-  begins_at,
-  bound_found,
-  has_note_of,
-  in_flush,
-  is_raising,
-  log_found,
-  made_final,
-  raised_to,
-  reaches,
-}
+use Rattle.path_core.specs.SeatAfter.{newest_made, place_cleared, raised_as_holder}
+use Rattle.path_core.specs.SeatAfter.{raised_as_writer, raised_stage}
+use Rattle.path_core.specs.SeatParts.{begins_at, bound_found, has_note_of, in_flush, is_raising}
+use Rattle.path_core.specs.SeatParts.{log_found, made_final, raised_to, reaches}
 use Rattle.path_core.proofs.seats.Columns.{at_table_keeps}
 use Rattle.path_rule.specs.declared.view.View.{View}
 use Rattle.path_rule.specs.Calls.{Did}
@@ -104,13 +74,19 @@ module _ (v after : View) (w u : ℕ) where
   abbrev pub Stays : Type 0
   Stays = oldest_at (seat_table after.part u) ≡ oldest_at (seat_table v.part u)
 
+  pub clear_keeps : (t : Table) (m n : ℕ) → Did v w (Switch w t m Clear) n after → Stays
+  clear_keeps t m n d = ap (λ (x : View). oldest_at (seat_table x.part u)) d.view
+      ∙ at_table_keeps t.0 u (place_cleared m) v.part oldest_at
+      (kept (λ (turn : FlushTurn). record turn { cleared = Some m })
+      (λ turn. refl) (seat_table v.part t.0).flush)
+
   pub open_keeps : (t : Table) (m n : ℕ) → Did v w (Switch w t m OpenPart) n after → Stays
   open_keeps t m n d = ap (λ (x : View). oldest_at (seat_table x.part u)) d.view
-      ∙ at_table_keeps t.0 u (λ (st : SeatTable). reaches (Begun m)
-      (in_flush (λ (turn : FlushTurn). record turn { newest = Some m }) st)) v.part oldest_at
+      ∙ at_table_keeps t.0 u (λ (st : SeatTable). reaches (Begun m) (newest_made m st)) v.part
+      oldest_at
       (stage_kept (Begun m)
-      (in_flush (λ (turn : FlushTurn). record turn { newest = Some m }) (seat_table v.part t.0))
-      ∙ kept (λ (turn : FlushTurn). record turn { newest = Some m })
+      (newest_made m (seat_table v.part t.0))
+      ∙ kept (λ (turn : FlushTurn). record turn { newest = Some m; cleared = None })
       (λ turn. refl) (seat_table v.part t.0).flush)
 
   pub mark_keeps : (t : Table) (m n : ℕ) → Did v w (Switch w t m Mark) n after → Stays

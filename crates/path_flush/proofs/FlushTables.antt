@@ -1,55 +1,32 @@
 -- What steps on the words of a table, and looks at the log key, leave of its Flush turn's holder.
-use Rattle.std.proofs.Common.{◌≡◌, ℕ, ◌<◌, Bool, Option, is_some, refl, sym, ap, ◌∙◌, subst, None}
+use Rattle.std.proofs.Common.{◌≡◌, ℕ, ◌<◌, ◌≤◌, Bool, cond, Option, is_some, refl, sym, ap, ◌∙◌}
+use Rattle.std.proofs.Common.{subst, arith, None}
 use Rattle.path_core.specs.declared.event.Cursor.TheVariants.{Synced, OldestLive, Stopped}
 use Rattle.path_core.specs.declared.event.Event.{Event}
-use Rattle.path_core.specs.declared.event.Event.TheVariants.{
-  Look,
-  Register,
-  Close,
-  OpenGroup,
-  MoveCurrent,
-  Expire,
-  Advance,
-  Claim,
-  Switch,
-  Raise,
-  Finalise,
-  TakeTurn,
-  GiveTurn,
-  Put,
-}
-use Rattle.path_core.specs.declared.event.Place.TheVariants.{
-  Count,
-  Current,
-  Oldest,
-  Log,
-  Newest,
-  Bound as BoundOf,
-  TurnWord,
-  CursorWord,
-}
-use Rattle.path_core.specs.declared.event.SwitchPart.TheVariants.{Open as OpenPart, Mark}
+use Rattle.path_core.specs.declared.event.Event.TheVariants.{Look, Register, Close, OpenGroup}
+use Rattle.path_core.specs.declared.event.Event.TheVariants.{MoveCurrent, Expire, Advance, Claim}
+use Rattle.path_core.specs.declared.event.Event.TheVariants.{Switch, Raise, Finalise, TakeTurn}
+use Rattle.path_core.specs.declared.event.Event.TheVariants.{GiveTurn, Put}
+use Rattle.path_core.specs.declared.event.Place.TheVariants.{Count, Current, Oldest, Log, Newest}
+use Rattle.path_core.specs.declared.event.Place.TheVariants.{Bound as BoundOf, TurnWord, CursorWord}
+use Rattle.path_core.specs.declared.event.SwitchPart.TheVariants.{Clear, Open as OpenPart, Mark}
 use Rattle.path_core.specs.declared.seat.Range.{Range}
 use Rattle.path_core.specs.declared.seat.Seat.{Seat}
 use Rattle.path_core.specs.Parts.{seat_table}
 use Rattle.path_core.specs.SeatAfter.{Told, seat_after}
 use Rattle.path_core.specs.Words.{place_of}
-use Rattle.path_core.proofs.seats.Columns.{
-  Columns,
-  write_after,
-  append_after,
-  claim_after,
-  flush_after,
-}
+use Rattle.path_core.proofs.seats.Columns.{Columns, write_after, append_after, claim_after}
+use Rattle.path_core.proofs.seats.Columns.{flush_after}
 use Rattle.path_core.proofs.seats.StepColumns.{columns, FitsSeat}
 use Rattle.path_rule.specs.declared.view.View.{View}
 use Rattle.path_rule.specs.Calls.{Did}
+use Rattle.path_rule.specs.Issued.{is_issue}
 use Rattle.path_rule.specs.Layout.{reading_at}
 use Rattle.path_rule.specs.Rule.{told_by}
 use Rattle.path_rule.proofs.seats.Staying.{none_is}
 use Rattle.path_flush.specs.FlushSteps.{FlushSteps, IsFlushStep}
 use Rattle.path_flush.specs.FlushTurns.{IsHolder}
-use Rattle.path_flush.proofs.FlushGoes.{next, one}
+use Rattle.path_flush.proofs.FlushGoes.{at_most, next, one}
 
 abbrev pub IsTableStep : Event → Type 0
 IsTableStep (Look by (Newest t)) = Unit {0}
@@ -94,6 +71,8 @@ is_small (Look by (BoundOf t m)) is = small (Look by (BoundOf t m)) (λ g. refl)
     (λ r. refl) (λ u b. refl) (λ s. tt) (λ s n told. refl)
 is_small (Look by Log) is = small (Look by Log) (λ g. refl) (λ g. refl) (λ r. refl)
     (λ u b. refl) (λ s. tt) (λ s n told. refl)
+is_small (Switch by t m Clear) is = small (Switch by t m Clear) (λ g. refl) (λ g. refl)
+    (λ r. refl) (λ u b. refl) (λ s. tt) (λ s n told. refl)
 is_small (Switch by t m OpenPart) is = small (Switch by t m OpenPart) (λ g. refl) (λ g. refl)
     (λ r. refl) (λ u b. refl) (λ s. tt) (λ s n told. refl)
 is_small (Switch by t m Mark) is = small (Switch by t m Mark) (λ g. refl) (λ g. refl)
@@ -119,9 +98,13 @@ is_small (TakeTurn by turn) is = absurd is
 is_small (GiveTurn by turn) is = absurd is
 is_small (Put by cursor value) is = absurd is
 
+pub issues_none : (e : Event) → IsTableStep e → cond (is_issue e) 1 0 ≤ 0
+issues_none (OpenGroup by o g) is = absurd is
+issues_none e is = omega arith
+
 -- What steps on the words of tables leave of a seat that holds a table's turn.
 pub record TableSteps (w t : ℕ) (v after : View) : Type 0 where
-  pub made : FlushSteps w t v after
+  pub made : FlushSteps w t 0 v after
   pub sync : after.part.sync ≡ v.part.sync
   pub hands : after.hands ≡ v.hands
   pub holder : IsHolder t v → IsHolder t after
@@ -145,7 +128,8 @@ abbrev pub on_table : (w t : ℕ) (e : Event) (n : ℕ) (v after : View) → IsT
     → IsFlushStep w t e → Did v w e n after → TableSteps w t v after
 on_table w t e n v after kind is d = let P = is_small e kind in
     let told = told_by None v.hands in record {
-      made = one w e n v.hands v after is (record { view = d.view; was = d.was });
+      made = at_most w v after (issues_none e kind)
+          (one w e n v.hands v after is (record { view = d.view; was = d.was }));
       sync = ap (λ (u : View). u.part.sync) d.view ∙ P.sync v.part n told;
       hands = ap (λ (u : View). u.hands) d.view;
       holder = holder_still t e v after P

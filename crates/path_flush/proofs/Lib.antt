@@ -8,7 +8,8 @@ pub mod FlushWaits
 pub mod FlushSwitching
 pub mod FlushTaking
 pub mod FlushBarring
-pub mod FlushReading
+pub mod FlushPays
+mod FlushReading
 pub mod FlushRetires
 pub mod SwitchGoes
 pub mod StepsOpen

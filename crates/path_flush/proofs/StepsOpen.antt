@@ -1,25 +1,6 @@
 -- How many memtables of a table steps open.
-use Rattle.std.proofs.Common.{
-  ◌≡◌,
-  ◌≢◌,
-  ℕ,
-  ◌+◌,
-  ◌≤◌,
-  Bool,
-  true,
-  false,
-  cond,
-  List,
-  [],
-  ◌∷◌,
-  ◌++◌,
-  refl,
-  sym,
-  ap,
-  ◌∙◌,
-  arith,
-  ne_eqb,
-}
+use Rattle.std.proofs.Common.{◌≡◌, ◌≢◌, ℕ, ◌+◌, ◌≤◌, Bool, true, false, cond, List, [], ◌∷◌, ◌++◌}
+use Rattle.std.proofs.Common.{refl, sym, ap, ◌∙◌, arith, ne_eqb}
 use Rattle.std.proofs.lemmas.List.Sums.{sum_by-append, sum_by-cons}
 use Rattle.path_core.specs.declared.event.Event.{Event}
 use Rattle.path_core.specs.declared.event.Event.TheVariants.{Switch}
@@ -27,13 +8,8 @@ use Rattle.path_core.specs.declared.event.SwitchPart.TheVariants.{Open, Mark}
 use Rattle.path_rule.specs.declared.view.OwnStep.{OwnStep}
 use Rattle.path_rule.specs.declared.view.View.{View}
 use Rattle.path_rule.specs.Rounds.{AreRoundSteps}
-use Rattle.path_flush.specs.FlushSteps.{
-  AreFlushSteps,
-  FlushSteps,
-  IsFlushStep,
-  SwitchesNo,
-  SwitchesNone,
-}
+use Rattle.path_flush.specs.FlushSteps.{AreFlushSteps, FlushSteps, IsFlushStep, SwitchesNo}
+use Rattle.path_flush.specs.FlushSteps.{SwitchesNone}
 use Rattle.path_flush.specs.Opens.{is_opening, opens}
 use Rattle.path_flush.proofs.SwitchGoes.{round_none}
 
@@ -54,10 +30,11 @@ pub opens_no : (t : ℕ) (s : OwnStep) (ss : List OwnStep) → is_opening t s.ev
 opens_no t s ss is = let more = opens_more t s ss in
     let none = ap (λ (b : Bool). cond {A = ℕ} b 1 0) is in omega (arith, more, none)
 
--- one step opens one at most
-pub opens_one : (t : ℕ) (s : OwnStep) → opens t (s ∷ []) ≤ 1
-opens_one t s = let more = opens_more t s [] in let most = by (is_opening t s.event) in
-    omega (arith, more, most)
+-- one step opens one at most, and one behind it that opens none adds none
+pub opens_two : (t : ℕ) (s u : OwnStep) → is_opening t u.event ≡ false
+    → opens t (s ∷ u ∷ []) ≤ 1
+opens_two t s u is = let more = opens_more t s (u ∷ []) in let none = opens_no t u [] is in
+    let most = by (is_opening t s.event) in omega (arith, more, none, most)
   where
     by : (b : Bool) → cond {A = ℕ} b 1 0 ≤ 1
     by true = omega arith
@@ -90,6 +67,6 @@ none_of_others w t u [] far A = refl
 none_of_others w t u (s ∷ ss) far A =
     opens_no u s ss (other_table w t u s.event far A.0) ∙ none_of_others w t u ss far A.1
 
-pub others_open : (w t u : ℕ) (v after : View) (S : FlushSteps w t v after) → u ≢ t
+pub others_open : {n : ℕ} (w t u : ℕ) (v after : View) (S : FlushSteps w t n v after) → u ≢ t
     → opens u S.steps ≡ 0
 others_open w t u v after S far = none_of_others w t u S.steps far S.are

@@ -1,62 +1,26 @@
 -- What a switch of a table's memtable answers, put together from the steps of its parts.
-use Rattle.std.proofs.Common.{
-  ◌≡◌,
-  inl,
-  ℕ,
-  ◌+◌,
-  ◌≤◌,
-  length,
-  List,
-  ◌++◌,
-  refl,
-  ap,
-  subst,
-  sym,
-  arith,
-}
+use Rattle.std.proofs.Common.{◌≡◌, inl, ℕ, ◌≤◌, length, List, ◌++◌, refl, ap, subst, sym, arith}
 use Rattle.clog_base.specs.declared.cell.Table.{Table}
-use Rattle.op_core.specs.declared.count.Order.TheVariants.{Write}
 use Rattle.path_core.specs.declared.event.Cursor.TheVariants.{OldestLive}
 use Rattle.path_core.specs.declared.event.Event.TheVariants.{Look}
-use Rattle.path_core.specs.declared.event.Place.TheVariants.{
-  Current,
-  CursorWord,
-  Newest,
-  TurnWord,
-}
+use Rattle.path_core.specs.declared.event.Place.TheVariants.{CursorWord, Newest, TurnWord}
 use Rattle.path_core.specs.declared.event.Turn.TheVariants.{Flush}
 use Rattle.path_rule.specs.declared.view.OwnStep.{OwnStep}
 use Rattle.path_rule.specs.declared.view.View.{View}
 use Rattle.path_rule.specs.Calls.{acts, Did, FoundSince}
 use Rattle.path_rule.specs.Rounds.{WroteBelow}
 use Rattle.path_rule.proofs.seats.Answering.{found_after, found_before}
-use Rattle.path_flush.specs.declared.flush_turn.Memtables.TheVariants.{Left as LeftOne, Full}
-use Rattle.path_flush.specs.declared.switch_answer.Row.TheVariants.{
-  Memtables,
-  WriteGroups,
-  AppendGroups,
-}
+use Rattle.path_flush.specs.declared.flush_turn.Memtables.TheVariants.{Left as LeftOne}
 use Rattle.path_flush.specs.declared.switch_answer.Switch.{Switch}
-use Rattle.path_flush.specs.declared.switch_answer.Switch.TheVariants.{
-  Empty,
-  Left,
-  Waits,
-  Busy,
-  Rows,
-}
+use Rattle.path_flush.specs.declared.switch_answer.Switch.TheVariants.{Empty, Left, Waits, Busy}
 use Rattle.path_flush.specs.FlushSteps.{Finalises, FlushSteps, QuietSteps}
 use Rattle.path_flush.specs.FlushTurns.{FindsMemtables}
-use Rattle.path_flush.specs.Switched.{HadTurn, IsSettled, IsSwitch, most_opened, Switches}
-use Rattle.path_flush.proofs.FlushGoes.{next, one, same_list}
+use Rattle.path_flush.specs.Switched.{HadTurn, IsSettled, IsSwitch, Switches, most_barriers}
+use Rattle.path_flush.specs.Switched.{most_opened}
+use Rattle.path_flush.proofs.FlushGoes.{at_most, next, one, same_list}
 use Rattle.path_flush.proofs.StepsOpen.{none_opened, opens_both}
-use Rattle.path_flush.proofs.SwitchGoes.{
-  bound_behind,
-  bound_set,
-  free_after,
-  none_both,
-  retires_behind,
-  then_quiet,
-}
+use Rattle.path_flush.proofs.SwitchGoes.{bound_behind, bound_set, none_both, retires_behind}
+use Rattle.path_flush.proofs.SwitchGoes.{then_quiet}
 
 -- ---- a memtable that was switched
 
@@ -66,7 +30,6 @@ settled_had w t m key v (Empty found) after I = tt
 settled_had w t m key v (Left found) after I = tt
 settled_had w t m key v (Waits k) after I = absurd I
 settled_had w t m key v (Busy found) after I = absurd I
-settled_had w t m key v (Rows row made) after I = absurd I
 
 -- such an answer may stand behind a memtable that was opened
 pub settled_opens : (w t m key : ℕ) (v : View) (a : Switch) (after : View)
@@ -75,11 +38,18 @@ settled_opens w t m key v (Empty found) after I = omega arith
 settled_opens w t m key v (Left found) after I = omega arith
 settled_opens w t m key v (Waits k) after I = absurd I
 settled_opens w t m key v (Busy found) after I = absurd I
-settled_opens w t m key v (Rows row made) after I = absurd I
+
+-- and behind its barrier
+pub settled_bars : (w t m key : ℕ) (v : View) (a : Switch) (after : View)
+    → IsSettled w t m key v a after → 1 ≤ most_barriers a
+settled_bars w t m key v (Empty found) after I = omega arith
+settled_bars w t m key v (Left found) after I = omega arith
+settled_bars w t m key v (Waits k) after I = absurd I
+settled_bars w t m key v (Busy found) after I = absurd I
 
 -- what is so of it
-pub settled_is : (w z t m key : ℕ) (v u after : View) (a : Switch) (newer : List OwnStep)
-    (S : FlushSteps w t v u) → z ≡ w → Finalises w t m key S.steps → WroteBelow key after.trail
+pub settled_is : {n : ℕ} (w z t m key : ℕ) (v u after : View) (a : Switch) (newer : List OwnStep)
+    (S : FlushSteps w t n v u) → z ≡ w → Finalises w t m key S.steps → WroteBelow key after.trail
     → IsSettled z t m key u a after → IsSwitch w t v a (newer ++ S.steps) after
 settled_is w z t m key v u after (Empty found) newer S same F W I = (
   m,
@@ -90,12 +60,11 @@ settled_is w z t m key v u after (Left found) newer S same F W I =
     (m, bound_set w t m key found.0 newer S.steps after I F W)
 settled_is w z t m key v u after (Waits k) newer S same F W I = absurd I
 settled_is w z t m key v u after (Busy found) newer S same F W I = absurd I
-settled_is w z t m key v u after (Rows row made) newer S same F W I = absurd I
 
 -- ---- an answer behind steps that switched nothing
 
 is_behind : (w t : ℕ) (v u after : View) (a : Switch) (steps : List OwnStep)
-    (Q : QuietSteps w t v u) → HadTurn a → IsSwitch w t u a steps after
+    (Q : QuietSteps w t 0 v u) → HadTurn a → IsSwitch w t u a steps after
     → IsSwitch w t v a (steps ++ Q.made.steps) after
 is_behind w t v u after (Empty key) steps Q had I = (
   I.0,
@@ -110,33 +79,12 @@ is_behind w t v u after (Waits m) steps Q had I = (
   (I.2.0, found_after (Newest (record { 0 = t })) I.2.0 steps Q.made.steps I.2.1, I.2.2),
 )
 is_behind w t v u after (Busy found) steps Q had I = absurd had
-is_behind w t v u after (Rows Memtables made) steps Q had I = (
-  I.0,
-  I.1,
-  (
-    I.2.0,
-    none_both steps Q.made.steps I.2.1 Q.none,
-    found_after (Newest (record { 0 = t })) I.0 steps Q.made.steps I.2.2,
-    found_after (CursorWord (OldestLive (record { 0 = t }))) I.0 steps Q.made.steps I.2.3,
-  ),
-)
-is_behind w t v u after (Rows WriteGroups made) steps Q had I = (
-  I.0,
-  I.1,
-  (
-    I.2.0,
-    none_both steps Q.made.steps I.2.1 Q.none,
-    found_after (Current Write) I.0 steps Q.made.steps I.2.2,
-    free_after t steps Q.made.steps I.2.3,
-  ),
-)
-is_behind w t v u after (Rows AppendGroups made) steps Q had I = absurd I
 
-pub behind : (w z t : ℕ) (v u after : View) (a : Switch) → z ≡ w → QuietSteps w t v u → HadTurn a
+pub behind : (w z t : ℕ) (v u after : View) (a : Switch) → z ≡ w → QuietSteps w t 0 v u → HadTurn a
     → Switches z t u a after → Switches w t v a after
 behind w z t v u after a same Q had R = let S = subst (λ k. Switches k t u a after) same R in
     let made = next w w v u after refl Q.made S.steps in record {
-      steps = made;
+      steps = at_most w v after (omega arith) made;
       opened = let none = none_opened t Q.made.steps Q.none in
           let all = opens_both t S.steps.steps Q.made.steps in let most = S.opened in
           omega (arith, none, all, most);
@@ -162,8 +110,8 @@ busy_is w n t v after d is = let e = Look w (TurnWord (Flush t)) in
       );
     }
 
-pub waits_is : (w z y t m : ℕ) (v u x after : View) → z ≡ w → y ≡ w → QuietSteps w t v u
-    → FindsMemtables t (LeftOne m) u x z → QuietSteps y t x after → Switches w t v (Waits m) after
+pub waits_is : (w z y t m : ℕ) (v u x after : View) → z ≡ w → y ≡ w → QuietSteps w t 0 v u
+    → FindsMemtables t (LeftOne m) u x z → QuietSteps y t 0 x after → Switches w t v (Waits m) after
 waits_is w z y t m v u x after first second T F L =
     let Q = then_quiet w y v x after second (then_quiet w z v u x first T F.0) L in
     let oldest = CursorWord (OldestLive (record { 0 = t })) in
@@ -180,30 +128,6 @@ waits_is w z y t m v u x after first second T F L =
           found_before newest F.2.0 L.made.steps (F.0.made.steps ++ T.made.steps)
               (found_after newest F.2.0 F.0.made.steps T.made.steps F.2.1),
           F.2.2,
-        ),
-      );
-    }
-
-pub full_is : (w z y t n : ℕ) (v u x after : View) → z ≡ w → y ≡ w → QuietSteps w t v u
-    → FindsMemtables t (Full n) u x z → QuietSteps y t x after
-    → Switches w t v (Rows Memtables (n + 1)) after
-full_is w z y t n v u x after first second T F L =
-    let Q = then_quiet w y v x after second (then_quiet w z v u x first T F.0) L in
-    let oldest = CursorWord (OldestLive (record { 0 = t })) in
-    let newest = Newest (record { 0 = t }) in let all = F.1 in record {
-      steps = Q.made;
-      opened = let none = none_opened t Q.made.steps Q.none in omega (arith, none);
-      list = same_list w v after Q.made;
-      is = (
-        n,
-        omega arith,
-        (
-          omega (arith, all),
-          Q.none,
-          found_before newest n L.made.steps (F.0.made.steps ++ T.made.steps)
-              (found_after newest n F.0.made.steps T.made.steps F.2),
-          found_before oldest n L.made.steps (F.0.made.steps ++ T.made.steps)
-              (found_after oldest n F.0.made.steps T.made.steps F.3),
         ),
       );
     }

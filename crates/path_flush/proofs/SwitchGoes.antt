@@ -1,51 +1,19 @@
 -- What the steps of a switch of a table's memtable leave, one by one and together.
-use Rattle.std.proofs.Common.{
-  ◌≡◌,
-  ℕ,
-  ◌≤◌,
-  false,
-  List,
-  [],
-  ◌∷◌,
-  ◌++◌,
-  Option,
-  Some,
-  None,
-  is_some,
-  sym,
-  ap,
-  ◌∙◌,
-  subst,
-}
+use Rattle.std.proofs.Common.{◌≡◌, ◌+◌, ℕ, ◌≤◌, false, List, [], ◌∷◌, ◌++◌, Option, Some, is_some}
+use Rattle.std.proofs.Common.{sym, ap, ◌∙◌, subst}
 use Rattle.std.proofs.lemmas.List.{append_assoc}
 use Rattle.std.proofs.lemmas.Option.{same_Some}
 use Rattle.std.specs.List.{Contains}
-use Rattle.std.specs.Option.{MatchOption, option_map, option_map_or}
+use Rattle.std.specs.Option.{option_map, option_map_or}
 use Rattle.atomic_table.specs.Table.{Me}
 use Rattle.op_core.specs.declared.count.Order.TheVariants.{Write}
-use Rattle.path_core.specs.declared.event.Cursor.TheVariants.{
-  OldestLive,
-  Stopped as StoppedCursor,
-  Synced,
-}
+use Rattle.path_core.specs.declared.event.Cursor.TheVariants.{OldestLive, Stopped as StoppedCursor}
+use Rattle.path_core.specs.declared.event.Cursor.TheVariants.{Synced}
 use Rattle.path_core.specs.declared.event.Event.{Event}
-use Rattle.path_core.specs.declared.event.Event.TheVariants.{
-  Look,
-  Register,
-  Close,
-  OpenGroup,
-  MoveCurrent,
-  Expire,
-  Advance,
-  Claim,
-  Switch as SwitchStep,
-  Raise,
-  Finalise,
-  TakeTurn,
-  GiveTurn,
-  Put,
-}
-use Rattle.path_core.specs.declared.event.Place.TheVariants.{CursorWord, Newest}
+use Rattle.path_core.specs.declared.event.Event.TheVariants.{Look, Register, Close, OpenGroup}
+use Rattle.path_core.specs.declared.event.Event.TheVariants.{MoveCurrent, Expire, Advance, Claim}
+use Rattle.path_core.specs.declared.event.Event.TheVariants.{Switch as SwitchStep, Raise, Finalise}
+use Rattle.path_core.specs.declared.event.Event.TheVariants.{TakeTurn, GiveTurn, Put}
 use Rattle.path_core.specs.declared.note.EntryNote.{EntryNote}
 use Rattle.path_core.specs.declared.seat.FlushTurn.{FlushTurn}
 use Rattle.path_core.specs.declared.seat.Issue.TheVariants.{Rest}
@@ -62,43 +30,18 @@ use Rattle.path_rule.specs.declared.view.OwnStep.{OwnStep}
 use Rattle.path_rule.specs.declared.view.View.{View}
 use Rattle.path_rule.specs.Calls.{IsPast}
 use Rattle.path_rule.specs.Desks.{HasDesk}
-use Rattle.path_rule.specs.Rounds.{
-  AreRoundSteps,
-  IsQuiet,
-  IsQuietStage,
-  IsRoundStep,
-  RoundSteps,
-  WroteBelow,
-}
+use Rattle.path_rule.specs.Rounds.{AreRoundSteps, IsQuiet, IsQuietStage, IsRoundStep, RoundSteps}
+use Rattle.path_rule.specs.Rounds.{WroteBelow}
 use Rattle.path_rule.specs.Switches.{FlushNewest, FlushOldest}
-use Rattle.path_rule.proofs.seats.Answering.{found_after, found_before}
 use Rattle.path_flush.specs.OwnWrites.{writes_of}
 use Rattle.path_flush.specs.FlushReads.{ReadSteps}
-use Rattle.path_flush.specs.FlushSteps.{
-  Finalises,
-  FlushSteps,
-  SwitchesNo,
-  QuietSteps,
-  RetiresEmpty,
-  RetiresNo,
-  RetiresNone,
-  SwitchesNone,
-}
+use Rattle.path_flush.specs.FlushSteps.{Finalises, FlushSteps, SwitchesNo, QuietSteps, RetiresEmpty}
+use Rattle.path_flush.specs.FlushSteps.{RetiresNo, RetiresNone, SwitchesNone}
 use Rattle.path_flush.specs.FlushTurns.{HoldsBoth}
-use Rattle.path_flush.specs.Switched.{FindsFree, SetsBound}
+use Rattle.path_flush.specs.Switched.{SetsBound}
 use Rattle.path_flush.proofs.FlushBarring.{final_before, final_behind}
 use Rattle.path_flush.proofs.FlushGoes.{next, of_round}
 use Rattle.path_flush.proofs.ListBelow.{list_below}
-
--- ---- what is so by cases of an answer
-
-pub on_none : {X : Type 0} (o : Option X) (N : Type 0) (S : X → Type 0) → o ≡ None
-    → MatchOption o N S → N
-on_none o N S is M = subst (λ x. MatchOption x N S) is M
-
-pub on_some : {X : Type 0} (o : Option X) (x : X) (N : Type 0) (S : X → Type 0) → o ≡ Some x
-    → MatchOption o N S → S x
-on_some o x N S is M = subst (λ y. MatchOption y N S) is M
 
 -- ---- what a seat with both turns knows behind steps of its reading
 
@@ -159,8 +102,8 @@ pub kept_both : (ts us : List OwnStep) → RetiresNone ts → RetiresNone us →
 kept_both [] us A B = B
 kept_both (t ∷ ts) us A B = (A.0, kept_both ts us A.1 B)
 
-abbrev pub then_quiet : {t : ℕ} (w z : ℕ) (v u after : View) → z ≡ w → QuietSteps w t v u
-    → QuietSteps z t u after → QuietSteps w t v after
+abbrev pub then_quiet : {t a b : ℕ} (w z : ℕ) (v u after : View) → z ≡ w → QuietSteps w t a v u
+    → QuietSteps z t b u after → QuietSteps w t (b + a) v after
 then_quiet {t} w z v u after same A B = record {
   made = next w z v u after same A.made B.made;
   none = none_both B.made.steps A.made.steps B.none A.none;
@@ -209,37 +152,17 @@ pub round_kept : (w : ℕ) (ts : List OwnStep) → AreRoundSteps w ts → Retire
 round_kept w [] A = tt
 round_kept w (t ∷ ts) A = (round_retires w t.event A.0, round_kept w ts A.1)
 
-abbrev pub quiet_round : {t : ℕ} (w : ℕ) (puts : List Event) (v after : View)
-    → RoundSteps w puts v after → QuietSteps w t v after
+abbrev pub quiet_round : {t n : ℕ} (w : ℕ) (puts : List Event) (v after : View)
+    → RoundSteps w n puts v after → QuietSteps w t n v after
 quiet_round {t} w puts v after S = record {
   made = of_round w puts v after S;
   none = round_none w S.steps S.are;
   kept = round_kept w S.steps S.are;
 }
 
--- ---- a memtable that was found free, before and behind further steps
-
-pub free_after : (t : ℕ) (newer older : List OwnStep) → FindsFree t newer
-    → FindsFree t (newer ++ older)
-free_after t newer older F = record {
-  memtable = F.memtable;
-  next = F.next;
-  newest = found_after (Newest (record { 0 = t })) F.memtable newer older F.newest;
-  least = found_after (CursorWord (OldestLive (record { 0 = t }))) F.memtable newer older F.least;
-}
-
-pub free_before : (t : ℕ) (newer older : List OwnStep) → FindsFree t older
-    → FindsFree t (newer ++ older)
-free_before t newer older F = record {
-  memtable = F.memtable;
-  next = F.next;
-  newest = found_before (Newest (record { 0 = t })) F.memtable newer older F.newest;
-  least = found_before (CursorWord (OldestLive (record { 0 = t }))) F.memtable newer older F.least;
-}
-
 -- ---- a memtable that was retired behind further steps
 
-pub retires_behind : (w z t m : ℕ) (v u after : View) → z ≡ w → FlushSteps w t v u
+pub retires_behind : {n : ℕ} (w z t m : ℕ) (v u after : View) → z ≡ w → FlushSteps w t n v u
     → RetiresEmpty z t m u after → RetiresEmpty w t m v after
 retires_behind w z t m v u after same S R =
     let E = subst (λ k. RetiresEmpty k t m u after) same R in (

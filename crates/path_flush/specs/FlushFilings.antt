@@ -1,27 +1,24 @@
 -- What a flush with both turns knows while it files a memtable, and what becomes of that.
-use Rattle.std.specs.Prelude.{◌≡◌, ◌≢◌, ◌⊎◌, ℕ, suc, List, [], Option, Some, None}
+use Rattle.std.specs.Prelude.{◌≡◌, ◌≢◌, ◌⊎◌, ◌≤◌, ℕ, List, [], Option, Some, None}
 use Rattle.atomic_table.specs.Table.{Me, rest}
 use Rattle.clog_base.specs.declared.cell.Cell.{Cell}
 use Rattle.clog_base.specs.declared.cell.CellKey.{CellKey}
-use Rattle.path_core.specs.declared.event.Cursor.TheVariants.{Stopped as StoppedCursor}
-use Rattle.path_core.specs.declared.event.Place.TheVariants.{CursorWord}
+use Rattle.path_core.specs.declared.event.Cursor.TheVariants.{Stopped as StoppedCursor, Synced}
+use Rattle.path_core.specs.declared.event.Place.TheVariants.{CursorWord, Log}
 use Rattle.path_core.specs.declared.keeper.KeeperFault.{KeeperFault}
+use Rattle.path_core.specs.declared.keeper.KeeperFault.TheVariants.{Stopped as KeeperStopped}
 use Rattle.path_core.specs.declared.keeper.KeeperFault.TheVariants.{
-  Stopped as KeeperStopped,
   OutOfMemory as KeeperOutOfMemory,
 }
 use Rattle.path_core.specs.declared.seat.Issue.TheVariants.{Rest}
 use Rattle.path_core.specs.declared.seat.Seat.{Seat}
 use Rattle.path_core.specs.declared.seat.Switching.TheVariants.{Settled, WithBarrier}
 use Rattle.path_core.specs.Keeper.{HasRisen}
+use Rattle.path_core.specs.Keys.{after}
 use Rattle.path_core.specs.Parts.{stage_of}
 use Rattle.path_rule.specs.declared.answer.SyncAnswer.{SyncAnswer}
-use Rattle.path_rule.specs.declared.answer.SyncAnswer.TheVariants.{
-  Done,
-  Stopped as SyncStopped,
-  OutOfMemory as SyncOutOfMemory,
-  Rows as SyncRows,
-}
+use Rattle.path_rule.specs.declared.answer.SyncAnswer.TheVariants.{Done, Stopped as SyncStopped}
+use Rattle.path_rule.specs.declared.answer.SyncAnswer.TheVariants.{OutOfMemory as SyncOutOfMemory}
 use Rattle.path_rule.specs.declared.lasting.Lasting.{Lasting}
 use Rattle.path_rule.specs.declared.slot.Slot.{Slot}
 use Rattle.path_rule.specs.declared.view.FlushRead.{FlushRead}
@@ -30,32 +27,15 @@ use Rattle.path_rule.specs.declared.view.View.{View}
 use Rattle.path_rule.specs.Calls.{Holds}
 use Rattle.path_rule.specs.FilingTold.{AreSeen, FoundFinal, SeesAll}
 use Rattle.path_rule.specs.Finds.{Finds}
-use Rattle.path_rule.specs.Flushes.{TakesNone}
 use Rattle.path_rule.specs.TurnTold.{CarriesDesk}
 use Rattle.path_flush.specs.declared.flush_answer.Flush.{Flush}
-use Rattle.path_flush.specs.declared.flush_answer.Flush.TheVariants.{
-  Flushed,
-  Empty,
-  Busy,
-  Rows,
-  Stopped,
-  OutOfMemory,
-}
-use Rattle.path_flush.specs.declared.switch_answer.Row.TheVariants.{
-  Memtables,
-  WriteGroups,
-  AppendGroups,
-}
-use Rattle.path_flush.specs.FlushSteps.{
-  IsLeftOrFiled,
-  QuietSteps,
-  RetiresEmpty,
-  RetiresFiled,
-  RetiresNone,
-  UnswitchedSteps,
-}
+use Rattle.path_flush.specs.declared.flush_answer.Flush.TheVariants.{Flushed, Empty, Busy, Stopped}
+use Rattle.path_flush.specs.declared.flush_answer.Flush.TheVariants.{OutOfMemory}
+use Rattle.path_flush.specs.declared.flush_rounds.Round.{Round}
+use Rattle.path_flush.specs.declared.flush_rounds.Round.TheVariants.{Lasts, Fails, Waits}
+use Rattle.path_flush.specs.FlushSteps.{IsLeftOrFiled, QuietSteps, RetiresEmpty, RetiresFiled}
+use Rattle.path_flush.specs.FlushSteps.{RetiresNone, UnswitchedSteps}
 use Rattle.path_flush.specs.FlushTurns.{IsHolder}
-use Rattle.path_flush.specs.Switched.{FindsLast}
 
 module _ {K : Type 0} where
   -- It has the Sync turn beside that of a table, and one box, which is the desk. It may have filed
@@ -87,15 +67,15 @@ pub record AwaitsFile (seats t m bound : ℕ) (cells : List (CellKey × Cell)) (
   pub barred : IsBarred t v.part
   pub opened : v.hands.lasting.at_open ≡ v.size.at_open
 
--- Seat w made steps by which no memtable is switched, and none is retired; the stage of its switch
--- is as it was.
-pub record FilingSteps (w t : ℕ) (v after : View) : Type 0 where
-  pub made : QuietSteps w t v after
+-- Seat w made steps by which no memtable is switched, and none is retired, and of which at most n
+-- issued a barrier. The stage of its switch is as it was.
+pub record FilingSteps (w t n : ℕ) (v after : View) : Type 0 where
+  pub made : QuietSteps w t n v after
   pub stage : stage_of after.part t ≡ stage_of v.part t
 
 -- The same where one may be retired.
-pub record RetiringSteps (w t : ℕ) (v after : View) : Type 0 where
-  pub made : UnswitchedSteps w t v after
+pub record RetiringSteps (w t n : ℕ) (v after : View) : Type 0 where
+  pub made : UnswitchedSteps w t n v after
   pub stage : stage_of after.part t ≡ stage_of v.part t
 
 -- ---- what becomes of a memtable
@@ -106,10 +86,6 @@ abbrev pub IsRefused : ℕ → Flush → List OwnStep → Type 0
 IsRefused opened (Flushed lower upper) steps = ⊥
 IsRefused opened (Empty key) steps = ⊥
 IsRefused opened (Busy found) steps = ⊥
-IsRefused opened (Rows Memtables made) steps = ⊥
-IsRefused opened (Rows WriteGroups made) steps = ⊥
-IsRefused opened (Rows AppendGroups made) steps =
-    (last : ℕ) × (suc last ≡ made) × FindsLast AppendGroups 0 last steps
 IsRefused opened (Stopped at_open now) steps =
     (at_open ≡ opened) × HasRisen at_open now × Finds (CursorWord StoppedCursor) now steps
 IsRefused opened OutOfMemory steps = Unit {0}
@@ -122,31 +98,24 @@ IsRetired w t m v (Flushed lower upper) steps after = RetiresFiled w t m lower.0
 IsRetired w t m v (Empty key) steps after =
     (r : RetiresEmpty w t m v after) × FoundFinal t r.0.before.part m key.0
 IsRetired w t m v (Busy found) steps after = ⊥
-IsRetired w t m v (Rows row made) steps after =
-    IsRefused v.size.at_open (Rows row made) steps × RetiresNone steps
 IsRetired w t m v (Stopped at_open now) steps after =
     IsRefused v.size.at_open (Stopped at_open now) steps × IsLeftOrFiled t m steps
 IsRetired w t m v OutOfMemory steps after = RetiresNone steps
 
--- That was answered, and no memtable was switched.
-pub record Retired (w t m : ℕ) (v : View) (answer : Flush) (after : View) : Type 0 where
-  pub steps : RetiringSteps w t v after
+-- That was answered, and no memtable was switched. At most n of the steps issued a barrier.
+pub record Retired (w t m n : ℕ) (v : View) (answer : Flush) (after : View) : Type 0 where
+  pub steps : RetiringSteps w t n v after
   pub is : IsRetired w t m v answer steps.made.made.steps after
 
--- It was refused so, and no memtable was retired.
-pub record Refused (w t : ℕ) (v : View) (answer : Flush) (after : View) : Type 0 where
-  pub steps : FilingSteps w t v after
+-- It was refused so, and no memtable was retired. At most n of the steps issued a barrier.
+pub record Refused (w t n : ℕ) (v : View) (answer : Flush) (after : View) : Type 0 where
+  pub steps : FilingSteps w t n v after
   pub is : IsRefused v.size.at_open answer steps.made.made.steps
-
--- It was, or it was not.
-abbrev pub MayRefuse : ℕ → ℕ → View → Option Flush → View → Type 0
-MayRefuse w t v (Some answer) after = Refused w t v answer after
-MayRefuse w t v None after = FilingSteps w t v after
 
 -- The keeper stopped, and that is answered; or the flush goes on.
 abbrev pub MayStop : ℕ → ℕ → View → Option Flush → View → Type 0
-MayStop w t v None after = FilingSteps w t v after
-MayStop w t v (Some (Stopped at_open now)) after = Refused w t v (Stopped at_open now) after
+MayStop w t v None after = FilingSteps w t 0 v after
+MayStop w t v (Some (Stopped at_open now)) after = Refused w t 0 v (Stopped at_open now) after
 MayStop w t v (Some other) after = ⊥
 
 -- what a keeper's fault is as an answer
@@ -160,42 +129,54 @@ abbrev pub unless_retired : Flush → Option Flush
 unless_retired (Flushed lower upper) = None
 unless_retired (Empty key) = None
 unless_retired (Busy found) = Some (Busy found)
-unless_retired (Rows row made) = Some (Rows row made)
 unless_retired (Stopped at_open now) = Some (Stopped at_open now)
 unless_retired OutOfMemory = Some OutOfMemory
 
 -- Memtable m of table t, which was left, is retired, and nothing is answered; or that is answered
--- for which it was not, or not alone.
+-- for which it was not, or not alone. One barrier was issued at most.
 pub record PassesLeft (w t m : ℕ) (v : View) (answer : Option Flush) (after : View) :
     Type 0 where
   pub told : Flush
   pub is : answer ≡ unless_retired told
-  pub retired : Retired w t m v told after
+  pub retired : Retired w t m 1 v told after
 
--- What became of a memtable that waits for its file, if that is told already; or it waits still.
-abbrev pub TriesFile : (w seats t m bound : ℕ) → List (CellKey × Cell) → View → Option Flush → View
-    → Type 0
-TriesFile w seats t m bound cells v (Some answer) after =
-    Retired w t m v answer after × TakesNone after.hands
-TriesFile w seats t m bound cells v None after =
-    FilingSteps w t v after × AwaitsFile seats t m bound cells after
+-- ---- the log lasts
+
+-- The log is lasting up to a key, as the seat found at these steps: it goes on at or above that key
+-- behind a synced key that it found, or put.
+pub record LastsTo (capacity key : ℕ) (steps : List OwnStep) : Type 0 where
+  pub synced : ℕ
+  pub found : Finds (CursorWord Synced) synced steps
+  pub reaches : key ≤ after capacity synced
+
+-- What a round of a sync is to a flush: by one barrier at most the log is lasting up to each log
+-- key that the seat had found, or it fails; or no barrier was issued, and nothing is told.
+abbrev pub MakesRound : ℕ → ℕ → View → Round → View → Type 0
+MakesRound w t v Lasts after = FilingSteps w t 1 v after
+    × ((key : ℕ) → Finds Log key v.trail → LastsTo v.size.capacity key after.trail)
+MakesRound w t v (Fails answer) after = Refused w t 1 v answer after
+MakesRound w t v Waits after = FilingSteps w t 0 v after
+
+-- By one barrier at most the log is lasting up to a key, or the flush is refused.
+abbrev pub MakesLasting : ℕ → ℕ → ℕ → View → Option Flush → View → Type 0
+MakesLasting w t key v None after =
+    FilingSteps w t 1 v after × LastsTo v.size.capacity key after.trail
+MakesLasting w t key v (Some answer) after = Refused w t 1 v answer after
 
 -- ---- what is to be answered
 
--- the answer of a round of a sync, to a flush: nothing where it goes on
-abbrev pub refused_round : Option SyncAnswer → Option Flush
-refused_round (Some (SyncStopped at_open now)) = Some (Stopped at_open now)
-refused_round (Some SyncOutOfMemory) = Some OutOfMemory
-refused_round (Some (SyncRows made)) = Some (Rows AppendGroups made)
-refused_round (Some (Done key)) = None
-refused_round None = None
+-- the answer of a round of a sync, to a flush
+abbrev pub round_of : Option SyncAnswer → Round
+round_of (Some (SyncStopped at_open now)) = Fails (Stopped at_open now)
+round_of (Some SyncOutOfMemory) = Fails OutOfMemory
+round_of (Some (Done key)) = Lasts
+round_of None = Waits
 
 -- what is answered where segments were not dropped: nothing where the keeper wants memory
 abbrev pub unless_memory : Flush → Option Flush
 unless_memory (Flushed lower upper) = Some (Flushed lower upper)
 unless_memory (Empty key) = Some (Empty key)
 unless_memory (Busy found) = Some (Busy found)
-unless_memory (Rows row made) = Some (Rows row made)
 unless_memory (Stopped at_open now) = Some (Stopped at_open now)
 unless_memory OutOfMemory = None
 

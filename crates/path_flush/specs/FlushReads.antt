@@ -19,9 +19,10 @@ pub record HasRead (t m above count : ℕ) (h : Hands) : Type 0 where
   pub none_taken : read.taken ≡ None
   pub seen_to : read.seen_to ≡ count
 
--- Seat w, which has the turn of table t, made steps that change what it has read alone.
+-- Seat w, which has the turn of table t, made steps that change what it has read alone, and issued
+-- no barrier.
 pub record ReadSteps (w t : ℕ) (v after : View) : Type 0 where
-  pub made : FlushSteps w t v after
+  pub made : FlushSteps w t 0 v after
   pub none : SwitchesNone made.steps
   pub kept : RetiresNone made.steps
   pub sync : after.part.sync ≡ v.part.sync

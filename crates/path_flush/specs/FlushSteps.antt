@@ -1,32 +1,10 @@
 -- The steps of a flush of a table, and what its seat makes by them.
-use Rattle.std.specs.Prelude.{
-  ◌≡◌,
-  ◌≢◌,
-  ◌⊎◌,
-  ℕ,
-  suc,
-  List,
-  [],
-  ◌∷◌,
-  ◌++◌,
-  Option,
-  Some,
-  None,
-}
+use Rattle.std.specs.Prelude.{◌≡◌, ◌≢◌, ◌⊎◌, ◌≤◌, ℕ, suc, List, [], ◌∷◌, ◌++◌, Option, Some, None}
 use Rattle.path_core.specs.declared.event.ClaimKind.TheVariants.{Entry}
 use Rattle.path_core.specs.declared.event.Cursor.TheVariants.{OldestLive}
 use Rattle.path_core.specs.declared.event.Event.{Event}
-use Rattle.path_core.specs.declared.event.Event.TheVariants.{
-  Register,
-  Close,
-  Claim,
-  Switch,
-  Raise,
-  Finalise,
-  TakeTurn,
-  GiveTurn,
-  Put,
-}
+use Rattle.path_core.specs.declared.event.Event.TheVariants.{Register, Close, Claim, Switch, Raise}
+use Rattle.path_core.specs.declared.event.Event.TheVariants.{Finalise, TakeTurn, GiveTurn, Put}
 use Rattle.path_core.specs.declared.event.Place.TheVariants.{CursorWord, Newest}
 use Rattle.path_core.specs.declared.event.Turn.TheVariants.{Flush}
 use Rattle.path_core.specs.declared.state.Bound.TheVariants.{Raising}
@@ -38,6 +16,7 @@ use Rattle.path_rule.specs.declared.view.View.{View}
 use Rattle.path_rule.specs.FilingTold.{FoundFinal, SeesAll}
 use Rattle.path_rule.specs.Finds.{Finds}
 use Rattle.path_rule.specs.FindsBounds.{Retires as RetiresOne}
+use Rattle.path_rule.specs.Issued.{issued_in}
 use Rattle.path_rule.specs.Layout.{bound_word}
 use Rattle.path_rule.specs.Retires.{RetiresEmptyIn, RetiresFiledIn}
 use Rattle.path_rule.specs.Rule.{Was}
@@ -62,11 +41,12 @@ abbrev pub AreFlushSteps : ℕ → ℕ → List OwnStep → Type 0
 AreFlushSteps w t [] = Unit {0}
 AreFlushSteps w t (s ∷ ss) = IsFlushStep w t s.event × AreFlushSteps w t ss
 
--- Seat w went from one view to another by such steps alone.
-pub record FlushSteps (w t : ℕ) (v after : View) : Type 0 where
+-- Seat w went from one view to another by such steps alone, of which at most n issued a barrier.
+pub record FlushSteps (w t n : ℕ) (v after : View) : Type 0 where
   pub steps : List OwnStep
   pub trail : after.trail ≡ steps ++ v.trail
   pub are : AreFlushSteps w t steps
+  pub issues : issued_in steps ≤ n
   pub returned : after.returned ≡ v.returned
   pub size : after.size ≡ v.size
 
@@ -134,14 +114,14 @@ RetiresNone [] = Unit {0}
 RetiresNone (t ∷ ts) = RetiresNo t.event × RetiresNone ts
 
 -- Seat w went from one view to another by steps of a flush of table t, of which none is one of a
--- switch.
-pub record UnswitchedSteps (w t : ℕ) (v after : View) : Type 0 where
-  pub made : FlushSteps w t v after
+-- switch, and at most n issued a barrier.
+pub record UnswitchedSteps (w t n : ℕ) (v after : View) : Type 0 where
+  pub made : FlushSteps w t n v after
   pub none : SwitchesNone made.steps
 
 -- Nor does one of them retire a memtable.
-pub record QuietSteps (w t : ℕ) (v after : View) : Type 0 where
-  pub made : FlushSteps w t v after
+pub record QuietSteps (w t n : ℕ) (v after : View) : Type 0 where
+  pub made : FlushSteps w t n v after
   pub none : SwitchesNone made.steps
   pub kept : RetiresNone made.steps
 

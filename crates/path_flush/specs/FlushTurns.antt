@@ -1,5 +1,5 @@
 -- What a seat knows that flushes a table, with the table's Flush turn and beside it the Sync turn.
-use Rattle.std.specs.Prelude.{◌≡◌, ◌≢◌, ℕ, ◌+◌, ◌<◌, [], Some, None, IsTrue, is_some}
+use Rattle.std.specs.Prelude.{◌≡◌, ◌≢◌, ℕ, ◌^◌, ◌<◌, [], Some, None, IsTrue, is_some}
 use Rattle.atomic_table.specs.Table.{Me}
 use Rattle.op_core.specs.declared.count.Order.TheVariants.{Write}
 use Rattle.path_core.specs.declared.event.Cursor.TheVariants.{OldestLive}
@@ -12,10 +12,9 @@ use Rattle.path_rule.specs.declared.view.View.{View}
 use Rattle.path_rule.specs.Calls.{IsPast, MayGive}
 use Rattle.path_rule.specs.Desks.{HasDesk}
 use Rattle.path_rule.specs.Finds.{Finds}
-use Rattle.path_rule.specs.Layout.{memtable_rows}
 use Rattle.path_rule.specs.Switches.{FlushNewest, FlushOldest}
 use Rattle.path_flush.specs.declared.flush_turn.Memtables.{Memtables}
-use Rattle.path_flush.specs.declared.flush_turn.Memtables.TheVariants.{Left, Full, Free}
+use Rattle.path_flush.specs.declared.flush_turn.Memtables.TheVariants.{Left, Free}
 use Rattle.path_flush.specs.FlushSteps.{FindsAlone, QuietSteps}
 
 -- It has the Flush turn of a table that there is, and that of no other. It runs no write.
@@ -47,31 +46,18 @@ module _ {K : Type 0} where
     pub desk : HasDesk shows m.0.hands.lasting m.0.hands.pending m.0.hands.progress m.1
 
 -- Which memtables of the table there are, as it found at these steps: the least one that is not
--- retired lies below the newest; or they are the same one, which is the last that has a word, or
--- behind which there is a word for the next.
+-- retired lies below the newest; or they are the same one.
 abbrev pub FindsMemtables : ℕ → Memtables → View → View → ℕ → Type 0
-FindsMemtables t (Left m) v after w = (s : QuietSteps w t v after)
+FindsMemtables t (Left m) v after w = (s : QuietSteps w t 0 v after)
     × Finds (CursorWord (OldestLive (record { 0 = t }))) m s.made.steps
     × ((n : ℕ) × Finds (Newest (record { 0 = t })) n s.made.steps × (m ≢ n))
-FindsMemtables t (Full n) v after w = (s : QuietSteps w t v after) × (n + 1 ≡ memtable_rows)
-    × Finds (Newest (record { 0 = t })) n s.made.steps
-    × Finds (CursorWord (OldestLive (record { 0 = t }))) n s.made.steps
-    × FlushOldest t after.part n × FlushNewest t after.part n
-FindsMemtables t (Free n) v after w = FlushOldest t after.part n × FlushNewest t after.part n
-    × (n + 1 < memtable_rows)
+FindsMemtables t (Free n) v after w = (s : QuietSteps w t 0 v after) × FindsAlone t n s.made.steps
 
--- Where there is a word for the next one, the newest was found alone at these steps.
-abbrev pub FindsNext : ℕ → Memtables → View → View → ℕ → Type 0
-FindsNext t (Left m) v after w = Unit {0}
-FindsNext t (Full n) v after w = Unit {0}
-FindsNext t (Free n) v after w = (s : QuietSteps w t v after) × FindsAlone t n s.made.steps
-
--- Where one was left, it is known as the least that is not retired, and another as the newest.
-abbrev pub KnowsLeft : ℕ → Memtables → View → Type 0
-KnowsLeft t (Left m) v = (m < memtable_rows) × FlushOldest t v.part m
+-- It knows the least that is not retired, and the newest: the same one, or another.
+abbrev pub KnowsMemtables : ℕ → Memtables → View → Type 0
+KnowsMemtables t (Left m) v = (m < 2 ^ 47) × FlushOldest t v.part m
     × ((n : ℕ) × FlushNewest t v.part n × (m ≢ n))
-KnowsLeft t (Full n) v = Unit {0}
-KnowsLeft t (Free n) v = Unit {0}
+KnowsMemtables t (Free n) v = (n < 2 ^ 47) × FlushOldest t v.part n × FlushNewest t v.part n
 
 -- A memtable of the table is final at a key and its barrier is passed: nothing more is placed in
 -- it.

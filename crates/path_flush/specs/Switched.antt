@@ -1,35 +1,16 @@
 -- What a switch answers, and what is so then of its seat and the seat's list.
-use Rattle.std.specs.Prelude.{◌≡◌, ◌≢◌, ℕ, suc, ◌<◌, ◌≤◌, List, length}
+use Rattle.std.specs.Prelude.{◌≡◌, ◌≢◌, ℕ, ◌≤◌, List, length}
 use Rattle.std.specs.List.{Contains}
-use Rattle.op_core.specs.declared.count.Order.TheVariants.{Write, Append}
-use Rattle.path_core.specs.declared.event.Cursor.TheVariants.{OldestLive, Stopped as StoppedCursor}
-use Rattle.path_core.specs.declared.event.Place.TheVariants.{
-  Current,
-  CursorWord,
-  Newest,
-  TurnWord,
-}
+use Rattle.path_core.specs.declared.event.Cursor.TheVariants.{OldestLive}
+use Rattle.path_core.specs.declared.event.Place.TheVariants.{CursorWord, Newest, TurnWord}
 use Rattle.path_core.specs.declared.event.Turn.TheVariants.{Flush}
 use Rattle.path_core.specs.declared.note.EntryNote.{EntryNote}
 use Rattle.path_rule.specs.declared.view.OwnStep.{OwnStep}
 use Rattle.path_rule.specs.declared.view.View.{View}
 use Rattle.path_rule.specs.Calls.{FoundSince, acts}
 use Rattle.path_rule.specs.Finds.{Finds}
-use Rattle.path_rule.specs.Layout.{group_rows, memtable_rows}
-use Rattle.path_flush.specs.declared.switch_answer.Row.{Row}
-use Rattle.path_flush.specs.declared.switch_answer.Row.TheVariants.{
-  Memtables,
-  WriteGroups,
-  AppendGroups,
-}
 use Rattle.path_flush.specs.declared.switch_answer.Switch.{Switch}
-use Rattle.path_flush.specs.declared.switch_answer.Switch.TheVariants.{
-  Empty,
-  Left,
-  Waits,
-  Busy,
-  Rows,
-}
+use Rattle.path_flush.specs.declared.switch_answer.Switch.TheVariants.{Empty, Left, Waits, Busy}
 use Rattle.path_flush.specs.OwnWrites.{writes_of}
 use Rattle.path_flush.specs.FlushSteps.{FlushSteps, Finalises, RetiresEmpty, SwitchesNone}
 use Rattle.path_flush.specs.Opens.{opens}
@@ -39,27 +20,6 @@ use Rattle.path_flush.specs.Opens.{opens}
 pub record SetsBound (w t m key : ℕ) (steps : List OwnStep) (v : View) : Type 0 where
   pub set : Finalises w t m key steps
   pub covers : (n : EntryNote) → Contains (writes_of v.trail) n → n.end.0 ≤ key
-
--- At these steps one memtable was found as the newest of table t and as the least that is not
--- retired, and there is a word for the next one.
-pub record FindsFree (t : ℕ) (steps : List OwnStep) : Type 0 where
-  pub memtable : ℕ
-  pub next : suc memtable < memtable_rows
-  pub newest : Finds (Newest (record { 0 = t })) memtable steps
-  pub least : Finds (CursorWord (OldestLive (record { 0 = t }))) memtable steps
-
--- The last word of a row was found in use at one of these steps: that of the number before the one
--- that is wanted. Where it is a word that a switch wants, they switch nothing. Where it is one of
--- memtables, that memtable is the only one not retired; where it is one of the write order, a
--- memtable was free. Where a sync wants it, the log was found running.
-abbrev pub FindsLast : Row → ℕ → ℕ → List OwnStep → Type 0
-FindsLast Memtables t last steps = (suc last ≡ memtable_rows) × SwitchesNone steps
-    × Finds (Newest (record { 0 = t })) last steps
-    × Finds (CursorWord (OldestLive (record { 0 = t }))) last steps
-FindsLast WriteGroups t last steps = (suc last ≡ group_rows) × SwitchesNone steps
-    × Finds (Current Write) last steps × FindsFree t steps
-FindsLast AppendGroups t last steps = (suc last ≡ group_rows)
-    × Finds (Current Append) last steps × Finds (CursorWord StoppedCursor) 0 steps
 
 -- At these steps, which switch nothing, m was found as the least memtable of table t that is not
 -- retired, and another one as the newest.
@@ -71,7 +31,7 @@ FindsLeft t m steps = SwitchesNone steps
 -- What is so behind an answer to seat w, which made these steps, for a table t. Empty and Left: the
 -- bound was set in this call, at or above each write of the seat's list; where Empty, the seat saw
 -- the boxes of all seats and nothing of the memtable in them, and retired it. Busy: the seat only
--- looked, and found the turn's word so. Rows: a word that a switch itself wants; it makes no sync.
+-- looked, and found the turn's word so.
 abbrev pub IsSwitch : ℕ → ℕ → View → Switch → List OwnStep → View → Type 0
 IsSwitch w t v (Empty key) steps after =
     (m : ℕ) × SetsBound w t m key.0 steps after × RetiresEmpty w t m v after
@@ -80,11 +40,6 @@ IsSwitch w t v (Waits m) steps after = FindsLeft t m steps
 IsSwitch w t v (Busy found) steps after = (found ≡ 1)
     × FoundSince (length v.trail) (TurnWord (Flush (record { 0 = t }))) found after.trail
     × (acts after.trail ≡ acts v.trail)
-IsSwitch w t v (Rows Memtables made) steps after =
-    (last : ℕ) × (suc last ≡ made) × FindsLast Memtables t last steps
-IsSwitch w t v (Rows WriteGroups made) steps after =
-    (last : ℕ) × (suc last ≡ made) × FindsLast WriteGroups t last steps
-IsSwitch w t v (Rows AppendGroups made) steps after = ⊥
 
 -- How many memtables were opened at most behind an answer: one where the newest was switched, else
 -- none.
@@ -93,12 +48,19 @@ most_opened (Empty key) = 1
 most_opened (Left key) = 1
 most_opened (Waits m) = 0
 most_opened (Busy found) = 0
-most_opened (Rows row made) = 0
+
+-- How many barriers were issued at most behind an answer: that of the memtable that was switched.
+abbrev pub most_barriers : Switch → ℕ
+most_barriers (Empty key) = 1
+most_barriers (Left key) = 1
+most_barriers (Waits m) = 0
+most_barriers (Busy found) = 0
 
 -- A switch of table t by seat w answered this. The seat made steps of a flush of that table alone,
--- by which it opened at most one memtable of it, and its list is as it was.
+-- by which it opened at most one memtable of it and issued at most one barrier, and its list is as
+-- it was.
 pub record Switches (w t : ℕ) (v : View) (answer : Switch) (after : View) : Type 0 where
-  pub steps : FlushSteps w t v after
+  pub steps : FlushSteps w t (most_barriers answer) v after
   pub opened : opens t steps.steps ≤ most_opened answer
   pub list : writes_of after.trail ≡ writes_of v.trail
   pub is : IsSwitch w t v answer steps.steps after

@@ -1,5 +1,4 @@
 //! What a flush of a table's memtable answers (`ColumnFamilyStore.Flush`).
-use crate::switch_answer::Row;
 use clog_base::Key;
 
 /// What a flush of a table's memtable answers. Keys are those of the log.
@@ -16,8 +15,6 @@ pub enum Flush {
     Empty(Key),
     /// Another seat has the table's turn: its word was found with this in it. The seat only looked.
     Busy(u64),
-    /// Each word of a row is in use, so many, and a further one is wanted.
-    Rows(Row, u64),
     /// The keeper has stopped: its count of faults at its opening, and the one with which the log
     /// is stopped. A memtable that was switched is left for the next flush, or its table file was
     /// put just before.

@@ -1,6 +1,7 @@
 //! A flush gives its turns back: the Sync turn alone, or both.
-ghost use Rattle.std.specs.Prelude.{◌≡◌, ℕ, None};
+ghost use Rattle.std.specs.Prelude.{◌≡◌, ◌≤◌, ℕ, None};
 ghost use Rattle.path_core.specs.Parts.{seat_table};
+ghost use Rattle.path_rule.specs.Issued.{issued_in, opened_in};
 ghost use Rattle.path_rule.specs.Lasts.{shows_of};
 ghost use Rattle.path_table.specs.Members.{view_of, part_of, hands_of, IsOf};
 ghost use Rattle.path_flush.specs.FlushFilings.{HasBoth, IsBarred};
@@ -25,7 +26,7 @@ pub(crate) fn give_sync_beside<K: Keeper, A: Allocator>(
     requires holds { HasBoth (shows_of K.holds) table.0 member.seat.me }
     ensures same { Stays path.now.table.shared.table_id path.now.size member
         result }
-    ensures steps { QuietSteps member.number table.0 (view_of member) (view_of result) }
+    ensures steps { QuietSteps member.number table.0 0 (view_of member) (view_of result) }
     ensures holds { HasTable table.0 result.seat.me }
     ensures tables { (t : ℕ) → seat_table (part_of result) t ≡ seat_table (part_of member) t }
     ensures reading { (hands_of result).reading ≡ (hands_of member).reading }
@@ -47,9 +48,10 @@ pub(crate) fn end_flush<K: Keeper, A: Allocator, R: Wait>(
     requires holds { HasBoth (shows_of K.holds) table.0 member.seat.me }
     requires unread { (hands_of member).reading ≡ None }
     requires barred { IsBarred table.0 (part_of member) }
+    requires paid { opened_in (view_of member).trail ≤ issued_in (view_of member).trail }
     ensures same { Stays path.now.table.shared.table_id path.now.size member
         result.member }
-    ensures steps { QuietSteps member.number table.0 (view_of member) (view_of result.member) }
+    ensures steps { QuietSteps member.number table.0 0 (view_of member) (view_of result.member) }
 {
     // A round of a sync may lie behind the barrier: it is found passed again.
     let Holder { mut member } = pass_all(path, rt, Holder { member });

@@ -50,7 +50,7 @@ pub(crate) fn retire_void<K: Keeper, A: Allocator>(
     bound: Key,
 ) -> (Member<K>, Flush)
     requires table { IsOf path.now.table.shared.table_id path.now.size member }
-    requires there { memtable < 256 }
+    requires there { memtable < 2 ^ 47 }
     requires holds { HoldsBoth (shows_of K.holds) table.0 member.seat.me }
     requires sees { SeesNone path.now.size.seats (hands_of member) table.0 memtable }
     requires bound { FoundFinal table.0 (part_of member) memtable bound.0 }
@@ -58,7 +58,7 @@ pub(crate) fn retire_void<K: Keeper, A: Allocator>(
         result.0 }
     ensures holds { HasBoth (shows_of K.holds) table.0 result.0.seat.me }
     ensures unread { (hands_of result.0).reading ≡ None }
-    ensures retired { Retired member.number table.0 memtable (view_of member) result.1
+    ensures retired { Retired member.number table.0 memtable 0 (view_of member) result.1
         (view_of result.0) }
 {
     let mut member = member;
@@ -77,7 +77,7 @@ fn retire_put<K: Keeper, A: Allocator>(
     synced: u64,
 ) -> (Member<K>, Flush)
     requires table { IsOf path.now.table.shared.table_id path.now.size member }
-    requires there { memtable < 256 }
+    requires there { memtable < 2 ^ 47 }
     requires files { path.now.size.files ≡ true }
     requires turns { HasTurns table.0 member.seat.me }
     requires turn { TurnSynced (part_of member) synced × (synced < 2 ^ 62)
@@ -91,7 +91,7 @@ fn retire_put<K: Keeper, A: Allocator>(
         result.0 }
     ensures holds { HasBoth (shows_of K.holds) table.0 result.0.seat.me }
     ensures unread { TakesNone (hands_of result.0) }
-    ensures retired { Retired member.number table.0 memtable (view_of member) result.1
+    ensures retired { Retired member.number table.0 memtable 0 (view_of member) result.1
         (view_of result.0) }
 {
     let mut member = member;
@@ -120,7 +120,7 @@ pub(crate) fn put_file<K: Keeper, A: Allocator>(
     synced: u64,
 ) -> (Member<K>, Flush)
     requires table { IsOf path.now.table.shared.table_id path.now.size member }
-    requires there { memtable < 256 }
+    requires there { memtable < 2 ^ 47 }
     requires files { path.now.size.files ≡ true }
     requires holds { HasBoth (shows_of K.holds) table.0 member.seat.me }
     requires awaits { AwaitsFile path.now.size.seats table.0 memtable bound.0 cells.now
@@ -133,7 +133,7 @@ pub(crate) fn put_file<K: Keeper, A: Allocator>(
         result.0 }
     ensures holds { HasBoth (shows_of K.holds) table.0 result.0.seat.me }
     ensures unread { TakesNone (hands_of result.0) }
-    ensures retired { Retired member.number table.0 memtable (view_of member) result.1
+    ensures retired { Retired member.number table.0 memtable 0 (view_of member) result.1
         (view_of result.0) }
 {
     let (member, lower) = path.last_upper(member, table);

@@ -1,18 +1,13 @@
 //! What was written to a memtable is gathered behind its barrier, from the boxes of all seats, and
 //! merged into the cells of a table file. For that its table's Flush turn is enough.
 ghost use Rattle.std.specs.List.{list_any};
-ghost use Rattle.std.specs.Prelude.{◌≡◌, suc, ◌<◌, ◌||◌, [], Some, true, nat_lt, IfSome};
+ghost use Rattle.std.specs.Prelude.{◌^◌, ◌≡◌, suc, ◌<◌, ◌||◌, [], Some, true, nat_lt, IfSome};
 ghost use Rattle.clog_cells.specs.Batches.{WerePut};
 ghost use Rattle.path_core.specs.declared.note.EntryNote.{EntryNote};
 ghost use Rattle.path_rule.specs.declared.view.FlushRead.{FlushRead};
 ghost use Rattle.path_table.specs.Members.{view_of, hands_of, boxes_of, IsOf};
-ghost use Rattle.path_flush.specs.FlushGathers.{
-  HasGathered,
-  HasGatheredAll,
-  HoldsGathered,
-  IsMadeOf,
-  told_some,
-};
+ghost use Rattle.path_flush.specs.FlushGathers.{HasGathered, HasGatheredAll, HoldsGathered};
+ghost use Rattle.path_flush.specs.FlushGathers.{IsMadeOf, told_some};
 ghost use Rattle.path_flush.specs.FlushReads.{HasRead, ReadSteps};
 ghost use Rattle.path_flush.specs.FlushTurns.{HasTable};
 ghost use Rattle.path_flush.specs.Seats.{Stays};
@@ -97,7 +92,7 @@ fn gather_box<K: Keeper, A: Allocator>(
     some: bool,
 ) -> (Member<K>, Option<bool>)
     requires table { IsOf path.now.table.shared.table_id path.now.size member }
-    requires there { (table.0 < path.now.size.tables) × (memtable < 256)
+    requires there { (table.0 < path.now.size.tables) × (memtable < 2 ^ 47)
         × (seat < path.now.size.seats) }
     requires reads { HasRead table.0 memtable above.0 seat (hands_of member) }
     requires gathered { HoldsGathered table cells.old some (hands_of member) }
@@ -131,7 +126,7 @@ fn gather_boxes<K: Keeper, A: Allocator>(
     cells: &mut CellBatches,
 ) -> (Member<K>, Option<bool>)
     requires table { IsOf path.now.table.shared.table_id path.now.size member }
-    requires there { (table.0 < path.now.size.tables) × (memtable < 256) }
+    requires there { (table.0 < path.now.size.tables) × (memtable < 2 ^ 47) }
     requires reads { HasRead table.0 memtable above.0 0 (hands_of member) }
     requires void { ((q : FlushRead) → (hands_of member).reading ≡ Some q → q.seen ≡ [])
         × WerePut [] cells.old }
@@ -167,7 +162,7 @@ pub(crate) fn gather_apart<K: Keeper, A: Allocator>(
     above: Key,
 ) -> (Member<K>, Gathered)
     requires table { IsOf path.now.table.shared.table_id path.now.size member }
-    requires there { (table.0 < path.now.size.tables) × (memtable < 256) }
+    requires there { (table.0 < path.now.size.tables) × (memtable < 2 ^ 47) }
     requires holds { HasTable table.0 member.seat.me }
     requires reads { HasRead table.0 memtable above.0 0 (hands_of member) }
     requires void { (q : FlushRead) → (hands_of member).reading ≡ Some q → q.seen ≡ [] }

@@ -10,17 +10,8 @@ ghost use Rattle.path_rule.specs.Finds.{Finds};
 ghost use Rattle.path_rule.specs.Lasts.{shows_of};
 ghost use Rattle.path_rule.specs.Turns.{FoundRunning};
 ghost use Rattle.path_table.specs.Members.{view_of, part_of, hands_of, IsOf};
-ghost use Rattle.path_flush.specs.FlushFilings.{
-  FilingSteps,
-  HasBoth,
-  HasTurns,
-  IsFault,
-  MayStop,
-  Refused,
-  TellsFault,
-  stopped_after,
-  unless_memory,
-};
+ghost use Rattle.path_flush.specs.FlushFilings.{FilingSteps, HasBoth, HasTurns, IsFault, MayStop};
+ghost use Rattle.path_flush.specs.FlushFilings.{Refused, TellsFault, stopped_after, unless_memory};
 ghost use Rattle.path_flush.specs.Seats.{Stays};
 
 use crate::flush_answer::Flush;
@@ -37,7 +28,6 @@ fn unless_memory(answer: Flush) -> Option<Flush>
         Flush::Flushed { .. } => Some(answer),
         Flush::Empty(_) => Some(answer),
         Flush::Busy(_) => Some(answer),
-        Flush::Rows(_, _) => Some(answer),
         Flush::Stopped { .. } => Some(answer),
         Flush::OutOfMemory => None,
     }
@@ -59,7 +49,7 @@ fn stop_log<K: Keeper, A: Allocator>(
         result }
     ensures holds { HasBoth (shows_of K.holds) table.0 result.seat.me }
     ensures reading { (hands_of result).reading ≡ (hands_of member).reading }
-    ensures told { (s : FilingSteps member.number table.0 (view_of member) (view_of result))
+    ensures told { (s : FilingSteps member.number table.0 0 (view_of member) (view_of result))
         × Finds (CursorWord Stopped) now s.made.made.steps }
 {
     let _ = table;
@@ -83,7 +73,7 @@ fn note_desk<K: Keeper, A: Allocator>(
         result }
     ensures holds { HasBoth (shows_of K.holds) table.0 result.seat.me }
     ensures reading { (hands_of result).reading ≡ (hands_of member).reading }
-    ensures steps { FilingSteps member.number table.0 (view_of member) (view_of result) }
+    ensures steps { FilingSteps member.number table.0 0 (view_of member) (view_of result) }
 {
     let _ = table;
     let mut member = member;
@@ -109,7 +99,7 @@ pub(crate) fn note_fault<K: Keeper, A: Allocator>(
         result.0 }
     ensures holds { HasBoth (shows_of K.holds) table.0 result.0.seat.me }
     ensures reading { (hands_of result.0).reading ≡ (hands_of member).reading }
-    ensures refused { Refused member.number table.0 (view_of member) result.1
+    ensures refused { Refused member.number table.0 0 (view_of member) result.1
         (view_of result.0) }
     ensures fault { IsFault result.1 }
 {

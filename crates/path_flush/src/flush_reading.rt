@@ -1,18 +1,6 @@
 //! What was written to a memtable is read behind its barrier, in the boxes of all seats. What a
 //! retired memtable left in front in a box goes then.
-ghost use Rattle.std.specs.Prelude.{
-  ◌≡◌,
-  ℕ,
-  suc,
-  ◌≤◌,
-  ◌<◌,
-  ◌∷◌,
-  true,
-  List,
-  [],
-  None,
-  Some,
-};
+ghost use Rattle.std.specs.Prelude.{◌^◌, ◌≡◌, ℕ, suc, ◌≤◌, ◌<◌, ◌∷◌, true, List, [], None, Some};
 ghost use Rattle.path_core.specs.declared.note.EntryNote.{EntryNote};
 ghost use Rattle.path_rule.specs.declared.view.FlushRead.{FlushRead};
 ghost use Rattle.path_rule.specs.Boxes.{memtable_box};
@@ -69,7 +57,7 @@ pub(crate) fn start_read<K: Keeper, A: Allocator>(
     memtable: u64,
 ) -> (Member<K>, Key)
     requires table { IsOf path.now.table.shared.table_id path.now.size member }
-    requires there { (table.0 < path.now.size.tables) × (memtable < 256) }
+    requires there { (table.0 < path.now.size.tables) × (memtable < 2 ^ 47) }
     requires stage { MayBeginRead table.0 (view_of member) memtable }
     requires oldest { FlushOldest table.0 (part_of member) memtable }
     requires unread { (hands_of member).reading ≡ None }
@@ -96,7 +84,7 @@ fn read_box<K: Keeper, A: Allocator>(
     seat: u64,
 ) -> (Member<K>, bool)
     requires table { IsOf path.now.table.shared.table_id path.now.size member }
-    requires there { (table.0 < path.now.size.tables) × (memtable < 256)
+    requires there { (table.0 < path.now.size.tables) × (memtable < 2 ^ 47)
         × (seat < path.now.size.seats) }
     requires reads { HasRead table.0 memtable above.0 seat (hands_of member) }
     ensures same { Stays path.now.table.shared.table_id path.now.size member
@@ -128,7 +116,7 @@ pub(crate) fn read_boxes<K: Keeper, A: Allocator>(
     above: Key,
 ) -> (Member<K>, bool)
     requires table { IsOf path.now.table.shared.table_id path.now.size member }
-    requires there { (table.0 < path.now.size.tables) × (memtable < 256) }
+    requires there { (table.0 < path.now.size.tables) × (memtable < 2 ^ 47) }
     requires reads { HasRead table.0 memtable above.0 0 (hands_of member) }
     requires void { (q : FlushRead) → (hands_of member).reading ≡ Some q → q.seen ≡ [] }
     ensures same { Stays path.now.table.shared.table_id path.now.size member

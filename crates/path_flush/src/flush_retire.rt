@@ -1,11 +1,12 @@
 //! A memtable to which nothing was written goes: it is retired without a table file, and both turns
 //! are given back.
-ghost use Rattle.std.specs.Prelude.{◌≡◌, ℕ, ◌<◌, None, Some};
+ghost use Rattle.std.specs.Prelude.{◌^◌, ◌≡◌, ℕ, ◌<◌, ◌≤◌, None, Some};
 ghost use Rattle.op_core.specs.declared.count.Order.TheVariants.{Write};
 ghost use Rattle.path_core.specs.declared.seat.Switching.TheVariants.{WithBarrier};
 ghost use Rattle.path_core.specs.Parts.{stage_of};
 ghost use Rattle.path_rule.specs.Calls.{IsPast};
 ghost use Rattle.path_rule.specs.Flushes.{SeesNone, TakesNone};
+ghost use Rattle.path_rule.specs.Issued.{issued_in, opened_in};
 ghost use Rattle.path_rule.specs.Lasts.{shows_of};
 ghost use Rattle.path_table.specs.Members.{view_of, part_of, hands_of, IsOf};
 ghost use Rattle.path_flush.specs.FlushSteps.{RetiresEmpty, UnswitchedSteps};
@@ -26,12 +27,12 @@ pub(crate) fn retire_read<K: Keeper, A: Allocator>(
     memtable: u64,
 ) -> Member<K>
     requires table { IsOf path.now.table.shared.table_id path.now.size member }
-    requires there { memtable < 256 }
+    requires there { memtable < 2 ^ 47 }
     requires holds { HoldsBoth (shows_of K.holds) table.0 member.seat.me }
     requires sees { SeesNone path.now.size.seats (hands_of member) table.0 memtable }
     ensures same { Stays path.now.table.shared.table_id path.now.size member
         result }
-    ensures steps { UnswitchedSteps member.number table.0 (view_of member) (view_of result) }
+    ensures steps { UnswitchedSteps member.number table.0 0 (view_of member) (view_of result) }
     ensures holds { HoldsBoth (shows_of K.holds) table.0 result.seat.me }
     ensures stage { stage_of (part_of result) table.0 ≡ stage_of (part_of member) table.0 }
     ensures past { (g : ℕ) → IsPast Write (view_of member) g
@@ -54,15 +55,16 @@ pub(crate) fn leave_empty<K: Keeper, A: Allocator>(
     memtable: u64,
 ) -> PathSeat<K>
     requires table { IsOf path.now.table.shared.table_id path.now.size member }
-    requires there { memtable < 256 }
+    requires there { memtable < 2 ^ 47 }
     requires holds { HoldsBoth (shows_of K.holds) table.0 member.seat.me }
     requires sees { SeesNone path.now.size.seats (hands_of member) table.0 memtable }
     requires passed { (g : ℕ)
         × (stage_of (part_of member) table.0 ≡ Some (WithBarrier memtable g))
         × IsPast Write (view_of member) g }
+    requires paid { opened_in (view_of member).trail ≤ issued_in (view_of member).trail }
     ensures same { Stays path.now.table.shared.table_id path.now.size member
         result.member }
-    ensures steps { UnswitchedSteps member.number table.0 (view_of member)
+    ensures steps { UnswitchedSteps member.number table.0 0 (view_of member)
         (view_of result.member) }
     ensures retires { RetiresEmpty member.number table.0 memtable (view_of member)
         (view_of result.member) }
@@ -84,9 +86,10 @@ pub(crate) fn leave_filled<K: Keeper, A: Allocator>(
     requires passed { (m g : ℕ)
         × (stage_of (part_of member) table.0 ≡ Some (WithBarrier m g))
         × IsPast Write (view_of member) g }
+    requires paid { opened_in (view_of member).trail ≤ issued_in (view_of member).trail }
     ensures same { Stays path.now.table.shared.table_id path.now.size member
         result.member }
-    ensures steps { UnswitchedSteps member.number table.0 (view_of member)
+    ensures steps { UnswitchedSteps member.number table.0 0 (view_of member)
         (view_of result.member) }
 {
     let mut member = member;

@@ -2,19 +2,15 @@
 //! something was seen. Both turns are held, except while what was written is gathered: for that the
 //! table's turn is enough, so commits that wait for a sync, and flushes of other tables, go on
 //! meanwhile.
-ghost use Rattle.std.specs.Prelude.{◌≡◌, ◌≢◌, ◌<◌, ℕ, true, None, Some};
+ghost use Rattle.std.specs.Prelude.{◌^◌, ◌≡◌, ◌≢◌, ◌<◌, ℕ, true, None, Some};
 ghost use Rattle.path_core.specs.declared.seat.Switching.TheVariants.{Settled};
 ghost use Rattle.path_core.specs.Parts.{stage_of};
+ghost use Rattle.path_rule.specs.Issued.{issued_in, most_issued};
 ghost use Rattle.path_rule.specs.Lasts.{shows_of};
 ghost use Rattle.path_rule.specs.Switches.{FlushNewest, FlushOldest, MayBeginRead};
 ghost use Rattle.path_table.specs.Members.{view_of, part_of, hands_of, IsOf};
-ghost use Rattle.path_flush.specs.FlushFilings.{
-  FilingSteps,
-  HasBoth,
-  PassesLeft,
-  Retired,
-  unless_retired,
-};
+ghost use Rattle.path_flush.specs.FlushFilings.{FilingSteps, HasBoth, PassesLeft, Retired};
+ghost use Rattle.path_flush.specs.FlushFilings.{unless_retired};
 ghost use Rattle.path_flush.specs.FlushGathers.{HasGathered};
 ghost use Rattle.path_flush.specs.FlushTurns.{HoldsBoth, HoldsTable};
 ghost use Rattle.path_flush.specs.Seats.{Stays};
@@ -40,7 +36,6 @@ fn unless_retired(answer: Flush) -> Option<Flush>
         Flush::Flushed { .. } => None,
         Flush::Empty(_) => None,
         Flush::Busy(_) => Some(answer),
-        Flush::Rows(_, _) => Some(answer),
         Flush::Stopped { .. } => Some(answer),
         Flush::OutOfMemory => Some(answer),
     }
@@ -57,7 +52,7 @@ fn read_whole<K: Keeper, A: Allocator, R: Wait>(
     memtable: u64,
 ) -> (Member<K>, Gathered)
     requires table { IsOf path.now.table.shared.table_id path.now.size member }
-    requires there { memtable < 256 }
+    requires there { memtable < 2 ^ 47 }
     requires holds { HoldsBoth (shows_of K.holds) table.0 member.seat.me }
     requires stage { MayBeginRead table.0 (view_of member) memtable }
     requires oldest { FlushOldest table.0 (part_of member) memtable }
@@ -66,7 +61,7 @@ fn read_whole<K: Keeper, A: Allocator, R: Wait>(
         result.0 }
     ensures holds { HoldsBoth (shows_of K.holds) table.0 result.0.seat.me }
     ensures opened { (hands_of result.0).lasting.at_open ≡ path.now.size.at_open }
-    ensures steps { FilingSteps member.number table.0 (view_of member) (view_of result.0) }
+    ensures steps { FilingSteps member.number table.0 0 (view_of member) (view_of result.0) }
     ensures gathered { HasGathered path.now.size.seats table memtable result.1
         (hands_of result.0) }
 {
@@ -87,17 +82,18 @@ pub(crate) fn retire_memtable<K: Keeper, A: Allocator, R: Wait>(
     memtable: u64,
 ) -> (Member<K>, Flush)
     requires table { IsOf path.now.table.shared.table_id path.now.size member }
-    requires there { memtable < 256 }
+    requires there { memtable < 2 ^ 47 }
     requires files { path.now.size.files ≡ true }
     requires holds { HoldsBoth (shows_of K.holds) table.0 member.seat.me }
     requires stage { MayBeginRead table.0 (view_of member) memtable }
     requires oldest { FlushOldest table.0 (part_of member) memtable }
     requires unread { (hands_of member).reading ≡ None }
+    requires spends { issued_in (view_of member).trail < most_issued }
     ensures same { Stays path.now.table.shared.table_id path.now.size member
         result.0 }
     ensures holds { HasBoth (shows_of K.holds) table.0 result.0.seat.me }
     ensures unread { (hands_of result.0).reading ≡ None }
-    ensures retired { Retired member.number table.0 memtable (view_of member) result.1
+    ensures retired { Retired member.number table.0 memtable 1 (view_of member) result.1
         (view_of result.0) }
 {
     let (mut member, read) = read_whole(path, rt, alloc, member, table, memtable);
@@ -123,11 +119,12 @@ pub(crate) fn flush_left<K: Keeper, A: Allocator, R: Wait>(
 ) -> (Member<K>, Option<Flush>)
     requires table { IsOf path.now.table.shared.table_id path.now.size member }
     requires files { path.now.size.files ≡ true }
-    requires there { memtable < 256 }
+    requires there { memtable < 2 ^ 47 }
     requires holds { HoldsTable table.0 member.seat.me }
     requires settled { stage_of (part_of member) table.0 ≡ Some Settled }
     requires left { FlushOldest table.0 (part_of member) memtable
         × ((n : ℕ) × FlushNewest table.0 (part_of member) n × (memtable ≢ n)) }
+    requires spends { issued_in (view_of member).trail < most_issued }
     ensures same { Stays path.now.table.shared.table_id path.now.size member
         result.0 }
     ensures holds { HoldsTable table.0 result.0.seat.me }

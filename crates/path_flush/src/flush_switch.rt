@@ -1,18 +1,19 @@
 //! A flush switches its table's memtables, while it holds both turns: the next memtable is made,
 //! and the one below it final at a key at or above all that the seat wrote. Then it waits for the
 //! barrier: nothing more comes into that one.
-ghost use Rattle.std.specs.Prelude.{◌+◌, ◌<◌, MatchOption};
+ghost use Rattle.std.specs.Prelude.{◌^◌, ◌<◌, ◌≤◌};
+ghost use Rattle.path_rule.specs.Issued.{issued_in, most_issued, opened_in};
 ghost use Rattle.path_rule.specs.Lasts.{shows_of};
 ghost use Rattle.path_rule.specs.Switches.{FlushNewest, FlushOldest};
 ghost use Rattle.path_table.specs.Members.{view_of, part_of, IsOf, KeepsBoxes};
 ghost use Rattle.path_flush.specs.FlushTurns.{HoldsBoth, IsHolder};
-ghost use Rattle.path_flush.specs.FlushSwitches.{MadeFinal, SwitchedTo, SwitchedNone};
+ghost use Rattle.path_flush.specs.FlushSwitches.{MadeFinal, SwitchedTo};
 ghost use Rattle.path_flush.specs.Seats.{Stays};
 
 use clog_base::{Key, Table};
 use path_core::{Keeper, Order};
 use path_rounds::{Holder, write_barrier};
-use path_table::{LAST_GROUP, Member, PathTable};
+use path_table::{Member, PathTable};
 use std::alloc::Allocator;
 use std::sync::Wait;
 
@@ -27,11 +28,14 @@ fn make_final<K: Keeper, A: Allocator>(
     requires table { IsOf path.now.table.shared.table_id path.now.size member.old }
     requires holder { IsHolder table.0 (view_of member.old) }
     requires turn { FlushNewest table.0 (part_of member.old) newest
-        × FlushOldest table.0 (part_of member.old) newest × (newest + 1 < 256) }
+        × FlushOldest table.0 (part_of member.old) newest × (newest < 2 ^ 47) }
+    requires paid { opened_in (view_of member.old).trail
+        ≤ issued_in (view_of member.old).trail }
     ensures same { KeepsBoxes member.old member.new }
     ensures made { MadeFinal member.old.number table.0 newest result.0 (view_of member.old)
         (view_of member.new) }
 {
+    path.clear_place(member, table, newest + 1);
     path.open_memtable(member, table, newest + 1);
     path.mark_memtable(member, table, newest);
     let key = path.look_log(member);
@@ -39,34 +43,30 @@ fn make_final<K: Keeper, A: Allocator>(
     path.finalise_memtable(member, table, newest)
 }
 
-// Switches the table's memtables and waits for the barrier, unless the last group of the write
-// order that there is a word for is the current one: then nothing is switched, and it answers
-// `None`. No clause says that it returns.
+// Switches the table's memtables and waits for the barrier. Returns the bound of the one that was
+// the newest. No clause says that it returns.
 pub(crate) fn switch_table<K: Keeper, A: Allocator, R: Wait>(
     path: &PathTable<K, A>,
     rt: &R,
     member: Member<K>,
     table: Table,
     newest: u64,
-) -> (Member<K>, Option<Key>)
+) -> (Member<K>, Key)
     requires table { IsOf path.now.table.shared.table_id path.now.size member }
     requires holds { HoldsBoth (shows_of K.holds) table.0 member.seat.me }
     requires turn { FlushNewest table.0 (part_of member) newest
-        × FlushOldest table.0 (part_of member) newest × (newest + 1 < 256) }
+        × FlushOldest table.0 (part_of member) newest × (newest < 2 ^ 47) }
+    requires numbers { (opened_in (view_of member).trail ≤ issued_in (view_of member).trail)
+        × (issued_in (view_of member).trail < most_issued) }
     ensures same { Stays path.now.table.shared.table_id path.now.size member
         result.0 }
     ensures holds { HoldsBoth (shows_of K.holds) table.0 result.0.seat.me }
-    ensures switched { MatchOption result.1
-        (SwitchedNone member.number table.0 (view_of member) (view_of result.0))
-        (λ key. SwitchedTo member.number table.0 newest key.0 (view_of member)
-        (view_of result.0)) }
+    ensures switched { SwitchedTo member.number table.0 newest result.1.0 (view_of member)
+        (view_of result.0) }
 {
     let mut member = member;
     let current = path.seek_current(&mut member, Order::Write);
-    if current == LAST_GROUP {
-        return (member, None);
-    }
     let bound = make_final(path, &mut member, table, newest);
     let holder = write_barrier(path, rt, Holder { member }, current);
-    (holder.member, Some(bound))
+    (holder.member, bound)
 }

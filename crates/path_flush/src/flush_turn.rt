@@ -6,20 +6,15 @@ ghost use Rattle.path_core.specs.declared.event.Place.TheVariants.{TurnWord};
 ghost use Rattle.path_core.specs.declared.event.Turn.TheVariants.{Flush};
 ghost use Rattle.path_core.specs.declared.seat.Switching.TheVariants.{Settled};
 ghost use Rattle.path_core.specs.Parts.{seat_table, stage_of};
+ghost use Rattle.path_rule.specs.Issued.{issued_in, opened_in};
 ghost use Rattle.path_rule.specs.Lasts.{shows_of};
 ghost use Rattle.path_rule.specs.Rounds.{RoundSteps};
 ghost use Rattle.path_rule.specs.Switches.{FlushNewest, FlushOldest, MayGiveFlush};
 ghost use Rattle.path_rule.specs.SyncAnswers.{KnowsMarker};
 ghost use Rattle.path_table.specs.Members.{view_of, part_of, hands_of, IsOf, Stepped};
 ghost use Rattle.path_flush.specs.FlushSteps.{QuietSteps};
-ghost use Rattle.path_flush.specs.FlushTurns.{
-  FindsMemtables,
-  FindsNext,
-  HasTable,
-  HoldsBoth,
-  HoldsTable,
-  KnowsLeft,
-};
+ghost use Rattle.path_flush.specs.FlushTurns.{FindsMemtables, HasTable, HoldsBoth, HoldsTable};
+ghost use Rattle.path_flush.specs.FlushTurns.{KnowsMemtables};
 ghost use Rattle.path_flush.specs.Seats.{Stays};
 
 use crate::giving::give_sync_turn;
@@ -30,17 +25,12 @@ use std::alloc::Allocator;
 use std::sync::Wait;
 use std::thread::yield_now;
 
-// How many memtables a table may have: there are words for so many.
-const MEMTABLES: u64 = 256;
-
 /// Which memtables a table has, as the holder of its Flush turn finds.
 #[derive(Clone, Copy, Drop)]
 pub enum Memtables {
     /// An earlier switch left this one: it is final, and not retired.
     Left(u64),
-    /// This one is the newest, and no other is in use. There is no word for a further one.
-    Full(u64),
-    /// This one is the newest, and no other is in use. There is a word for the next one.
+    /// This one is the newest, and no other is in use.
     Free(u64),
 }
 
@@ -58,7 +48,7 @@ pub(crate) fn take_table<K: Keeper, A: Allocator>(
         (λ r. Stays path.now.table.shared.table_id path.now.size seat.member
         r.0.member) }
     ensures step { MatchResult result
-        (λ m. QuietSteps seat.member.number table.0 (view_of seat.member) (view_of m))
+        (λ m. QuietSteps seat.member.number table.0 0 (view_of seat.member) (view_of m))
         (λ r. (r.1 ≡ 1)
         × Stepped seat.member (Look seat.member.number (TurnWord (Flush table))) r.1
         r.0.member) }
@@ -84,23 +74,19 @@ pub(crate) fn look_memtables<K: Keeper, A: Allocator>(
     requires holds { HoldsTable table.0 member.old.seat.me }
     ensures same { Stays path.now.table.shared.table_id path.now.size member.old
         member.new }
-    ensures steps { QuietSteps member.old.number table.0 (view_of member.old)
+    ensures steps { QuietSteps member.old.number table.0 0 (view_of member.old)
         (view_of member.new) }
     ensures holds { HoldsTable table.0 member.new.seat.me }
     ensures stage { stage_of (part_of member.new) table.0
         ≡ stage_of (part_of member.old) table.0 }
     ensures found { FindsMemtables table.0 result (view_of member.old) (view_of member.new)
         member.old.number }
-    ensures left { KnowsLeft table.0 result (view_of member.new) }
-    ensures free { FindsNext table.0 result (view_of member.old) (view_of member.new)
-        member.old.number }
+    ensures known { KnowsMemtables table.0 result (view_of member.new) }
 {
     let oldest = path.look_oldest_live(member, table);
     let newest = path.look_newest(member, table);
     if oldest != newest {
         Memtables::Left(oldest)
-    } else if newest + 1 >= MEMTABLES {
-        Memtables::Full(newest)
     } else {
         Memtables::Free(newest)
     }
@@ -118,7 +104,7 @@ pub(crate) fn take_sync_beside<K: Keeper, A: Allocator, R: Wait>(
     requires holds { HasTable table.0 member.seat.me }
     ensures same { Stays path.now.table.shared.table_id path.now.size member
         result }
-    ensures steps { RoundSteps member.number [] (view_of member) (view_of result) }
+    ensures steps { RoundSteps member.number 0 [] (view_of member) (view_of result) }
     ensures holds { HoldsBoth (shows_of K.holds) table.0 result.seat.me }
     ensures tables { (t : ℕ) → seat_table (part_of result) t ≡ seat_table (part_of member) t }
     ensures order { (m n : ℕ) → FlushOldest table.0 (part_of member) m
@@ -146,10 +132,10 @@ pub(crate) fn leave_both<K: Keeper, A: Allocator>(
     requires table { IsOf path.now.table.shared.table_id path.now.size member }
     requires holds { HoldsBoth (shows_of K.holds) table.0 member.seat.me }
     requires through { MayGiveFlush table.0 (view_of member) }
+    requires paid { opened_in (view_of member).trail ≤ issued_in (view_of member).trail }
     ensures same { Stays path.now.table.shared.table_id path.now.size member
         result.member }
-    ensures steps { QuietSteps member.number table.0 (view_of member) (view_of result.member) }
-    ensures stopped { (part_of result.member).found.stopped ≡ (part_of member).found.stopped }
+    ensures steps { QuietSteps member.number table.0 0 (view_of member) (view_of result.member) }
 {
     let mut member = member;
     path.give_flush(&mut member, table);

@@ -1,17 +1,6 @@
 //! What a switch of a table's memtable answers (`ColumnFamilyStore.Flush`, before it writes).
 use clog_base::Key;
 
-/// A row of words, one for each number that is given out.
-#[derive(Clone, Copy, Debug, PartialEq, Eq, Drop)]
-pub enum Row {
-    /// That of a table's memtables.
-    Memtables,
-    /// That of the groups of the write order, one for each barrier that a switch issues.
-    WriteGroups,
-    /// That of the groups of the append order, one for each marker's barrier that a sync issues.
-    AppendGroups,
-}
-
 /// What a switch of a table's memtable answers. Keys are those of the log.
 #[derive(Clone, Copy, Debug, PartialEq, Eq, Drop)]
 pub enum Switch {
@@ -24,6 +13,4 @@ pub enum Switch {
     Waits(u64),
     /// Another seat has the table's turn: its word was found with this in it. The seat only looked.
     Busy(u64),
-    /// Each word of a row is in use, so many, and a further one is wanted. Nothing was switched.
-    Rows(Row, u64),
 }

@@ -2,27 +2,28 @@
 //! table's Flush turn, and beside it the Sync turn; it makes the next memtable, and the newest one
 //! so far final; it waits for the barrier, and looks into the boxes of all seats. Then it gives
 //! both turns back, and is idle again.
-ghost use Rattle.std.specs.Prelude.{◌≡◌, ◌+◌, ◌<◌, ℕ, None, Some};
+ghost use Rattle.std.specs.Prelude.{◌^◌, ◌≡◌, ◌<◌, ◌≤◌, ℕ, None, Some};
 ghost use Rattle.path_core.specs.declared.seat.Switching.TheVariants.{Settled};
 ghost use Rattle.path_core.specs.Parts.{stage_of};
 ghost use Rattle.path_rule.specs.declared.view.View.{View};
+ghost use Rattle.path_rule.specs.Issued.{issued_in, most_issued, opened_in};
 ghost use Rattle.path_rule.specs.Lasts.{shows_of};
 ghost use Rattle.path_rule.specs.Switches.{FlushNewest, FlushOldest};
 ghost use Rattle.path_table.specs.Members.{view_of, part_of, hands_of, IsOf};
 ghost use Rattle.path_flush.specs.FlushSteps.{QuietSteps, UnswitchedSteps};
 ghost use Rattle.path_flush.specs.FlushTurns.{HoldsBoth, HoldsTable, IsDrained};
-ghost use Rattle.path_flush.specs.Switched.{FindsFree, HadTurn, IsSettled, Switches};
+ghost use Rattle.path_flush.specs.Switched.{HadTurn, IsSettled, Switches};
 ghost use Rattle.path_flush.specs.Seats.{Stays};
 
 use crate::flush_reading::{read_boxes, start_read};
 use crate::flush_retire::{leave_empty, leave_filled};
 use crate::flush_switch::switch_table;
-use crate::flush_turn::{Memtables, leave_both, look_memtables, take_sync_beside, take_table};
+use crate::flush_turn::{Memtables, look_memtables, take_sync_beside, take_table};
 use crate::giving::give_flush_turn;
-use crate::switch_answer::{Row, Switch};
+use crate::switch_answer::Switch;
 use clog_base::{Key, Table};
 use path_core::Keeper;
-use path_table::{GROUPS, Member, PathSeat, PathTable};
+use path_table::{Member, PathSeat, PathTable};
 use std::alloc::{Allocator, Global};
 use std::sync::Wait;
 
@@ -35,9 +36,10 @@ pub(crate) fn leave_table<K: Keeper, A: Allocator>(
     requires table { IsOf path.now.table.shared.table_id path.now.size member }
     requires holds { HoldsTable table.0 member.seat.me }
     requires settled { stage_of (part_of member) table.0 ≡ Some Settled }
+    requires paid { opened_in (view_of member).trail ≤ issued_in (view_of member).trail }
     ensures same { Stays path.now.table.shared.table_id path.now.size member
         result.member }
-    ensures steps { QuietSteps member.number table.0 (view_of member) (view_of result.member) }
+    ensures steps { QuietSteps member.number table.0 0 (view_of member) (view_of result.member) }
 {
     give_flush_turn(path, member, table)
 }
@@ -53,13 +55,14 @@ fn settle<K: Keeper, A: Allocator>(
     bound: Key,
 ) -> (PathSeat<K>, Switch)
     requires table { IsOf path.now.table.shared.table_id path.now.size member }
-    requires there { memtable < 256 }
+    requires there { memtable < 2 ^ 47 }
     requires holds { HoldsBoth (shows_of K.holds) table.0 member.seat.me }
     requires drained { IsDrained table.0 memtable bound.0 (view_of member) }
     requires unread { (hands_of member).reading ≡ None }
+    requires paid { opened_in (view_of member).trail ≤ issued_in (view_of member).trail }
     ensures same { Stays path.now.table.shared.table_id path.now.size member
         result.0.member }
-    ensures steps { UnswitchedSteps member.number table.0 (view_of member)
+    ensures steps { UnswitchedSteps member.number table.0 0 (view_of member)
         (view_of result.0.member) }
     ensures settled { IsSettled member.number table.0 memtable bound.0 (view_of member)
         result.1 (view_of result.0.member) }
@@ -90,23 +93,18 @@ fn switch_newest<K: Keeper, A: Allocator, R: Wait>(
     requires holds { HoldsTable table.0 member.seat.me }
     requires settled { stage_of (part_of member) table.0 ≡ Some Settled }
     requires turn { FlushNewest table.0 (part_of member) newest
-        × FlushOldest table.0 (part_of member) newest × (newest + 1 < 256) }
+        × FlushOldest table.0 (part_of member) newest × (newest < 2 ^ 47) }
+    requires numbers { (opened_in (view_of member).trail ≤ issued_in (view_of member).trail)
+        × (issued_in (view_of member).trail < most_issued) }
     ensures same { Stays path.now.table.shared.table_id path.now.size member
         result.0.member }
     ensures had { HadTurn result.1 }
-    ensures switches { (w : ℕ) (v : View) (q : QuietSteps w table.0 v (view_of member))
-        → member.number ≡ w → FindsFree table.0 q.made.steps
-        → Switches w table.0 v result.1 (view_of result.0.member) }
+    ensures switches { (w : ℕ) (v : View) → QuietSteps w table.0 0 v (view_of member)
+        → member.number ≡ w → Switches w table.0 v result.1 (view_of result.0.member) }
 {
     let member = take_sync_beside(path, rt, member, table);
     let (member, bound) = switch_table(path, rt, member, table, newest);
-    match bound {
-        Some(bound) => settle(path, alloc, member, table, newest, bound),
-        None => (
-            leave_both(path, member, table),
-            Switch::Rows(Row::WriteGroups, GROUPS),
-        ),
-    }
+    settle(path, alloc, member, table, newest, bound)
 }
 
 /// Switches a table's memtable: what was live until then takes no write that begins later
@@ -117,10 +115,9 @@ fn switch_newest<K: Keeper, A: Allocator, R: Wait>(
 /// seen in the boxes of all seats, and the memtable is retired. `Left` carries it too: the memtable
 /// is left behind its barrier, for the flush that is to put its table file. `Waits` has the number
 /// of a memtable that an earlier switch left, behind which nothing is switched. `Busy` has what was
-/// found in the table's turn word; the seat only looked. `Rows` has the row of words of which a
-/// further one is wanted, and how many are in use; nothing was switched. The call opens at most one
-/// memtable, which is of the table: none but by `Empty` and `Left`. It takes no memory. No clause
-/// says that it returns.
+/// found in the table's turn word; the seat only looked. The call opens at most one memtable, which
+/// is of the table, and issues at most one barrier: none but by `Empty` and `Left`. It takes no
+/// memory. No clause says that it returns.
 pub fn switch_memtable<K: Keeper, A: Allocator, R: Wait>(
     path: &PathTable<K, A>,
     rt: &R,
@@ -130,6 +127,7 @@ pub fn switch_memtable<K: Keeper, A: Allocator, R: Wait>(
 ) -> (PathSeat<K>, Switch)
     requires table { IsOf path.now.table.shared.table_id path.now.size seat.member }
     requires there { table.0 < path.now.size.tables }
+    requires spends { issued_in (view_of seat.member).trail ≤ 2 ^ 40 }
     ensures same { Stays path.now.table.shared.table_id path.now.size seat.member
         result.0.member }
     ensures switches { Switches seat.member.number table.0 (view_of seat.member) result.1
@@ -141,10 +139,6 @@ pub fn switch_memtable<K: Keeper, A: Allocator, R: Wait>(
     };
     match look_memtables(path, &mut member, table) {
         Memtables::Left(memtable) => { (leave_table(path, member, table), Switch::Waits(memtable)) }
-        Memtables::Full(newest) => {
-            let rows = Switch::Rows(Row::Memtables, newest + 1);
-            (leave_table(path, member, table), rows)
-        }
         Memtables::Free(newest) => switch_newest(path, rt, alloc, member, table, newest),
     }
 }

@@ -1,21 +1,6 @@
 -- A try to move the oldest group on: what it found at its three looks, and its step behind them.
-use Rattle.std.proofs.Common.{
-  ◌≡◌,
-  ◌≢◌,
-  ℕ,
-  suc,
-  ◌^◌,
-  List,
-  ◌∷◌,
-  length,
-  refl,
-  sym,
-  ap,
-  ◌∙◌,
-  subst,
-  arith,
-  None,
-}
+use Rattle.std.proofs.Common.{◌*◌, ◌+◌, ◌≡◌, ◌≢◌, ℕ, suc, ◌^◌, List, ◌∷◌, length, refl, sym, ap}
+use Rattle.std.proofs.Common.{◌∙◌, subst, arith, None}
 use mathlib.Core.Logic.{inl, inr}
 use Rattle.op_core.specs.declared.count.Order.{Order}
 use Rattle.path_core.specs.declared.event.Event.{Event}
@@ -55,7 +40,7 @@ module _ (o : Order) (w w1 w2 current group count : ℕ) (v v1 v2 v3 : View)
   found_count : FoundSince (length v.trail) (Count o group) count looks
   found_count = inl (omega arith, refl, refl)
 
-  pub runs_still : count ≢ 2 ^ 63 → RunsStill o group count v v3
+  pub runs_still : count ≢ 65536 * group + 2 ^ 63 → RunsStill o group count v v3
   runs_still unfinished = record {
     oldest = subst (FoundSince (length v.trail) (Oldest o) group) (sym behind) found_oldest;
     found = subst (FoundSince (length v.trail) (Count o group) count) (sym behind) found_count;
@@ -63,7 +48,8 @@ module _ (o : Order) (w w1 w2 current group count : ℕ) (v v1 v2 v3 : View)
     only = ap acts behind;
   }
 
-  pub has_moved_on : (w3 to : ℕ) (v4 : View) → count ≡ 2 ^ 63 → to ≡ suc group → w3 ≡ w
+  pub has_moved_on : (w3 to : ℕ) (v4 : View) → count ≡ 65536 * group + 2 ^ 63 → to ≡ suc group
+      → w3 ≡ w
       → Did v3 w3 (Advance w3 o to) to v4 → HasMovedOn o w to v v4
   has_moved_on w3 to v4 finished next same D =
       let last = grown v3 w3 (Advance w3 o to) to v4 looks D behind in record {
@@ -71,7 +57,8 @@ module _ (o : Order) (w w1 w2 current group count : ℕ) (v v1 v2 v3 : View)
         next = next;
         oldest = subst (FoundSince (length v.trail) (Oldest o) group) (sym last)
             (inr found_oldest);
-        finished = subst (FoundSince (length v.trail) (Count o group) (2 ^ 63)) (sym last)
+        finished = subst (FoundSince (length v.trail) (Count o group) (65536 * group + 2 ^ 63))
+            (sym last)
             (inr (subst (λ n. FoundSince (length v.trail) (Count o group) n looks) finished
             found_count));
         looked = v3;

@@ -1,12 +1,9 @@
 -- What a barrier is issued by, and what a try to move the oldest group on answers.
-use Rattle.std.specs.Prelude.{◌≡◌, ◌≢◌, ℕ, suc, ◌^◌, List, ◌++◌, map, length}
+use Rattle.std.specs.Prelude.{◌*◌, ◌+◌, ◌≡◌, ◌≢◌, ℕ, suc, ◌^◌, List, ◌++◌, map, length}
 use Rattle.std.specs.List.{Contains}
 use Rattle.op_core.specs.declared.count.Order.{Order}
-use Rattle.path_core.specs.declared.event.Event.TheVariants.{
-  Advance as AdvanceStep,
-  Expire,
-  MoveCurrent,
-}
+use Rattle.path_core.specs.declared.event.Event.TheVariants.{Advance as AdvanceStep, Expire}
+use Rattle.path_core.specs.declared.event.Event.TheVariants.{MoveCurrent}
 use Rattle.path_core.specs.declared.event.Place.TheVariants.{Count, Oldest}
 use Rattle.path_rule.specs.declared.view.OwnStep.{OwnStep}
 use Rattle.path_rule.specs.declared.view.View.{View}
@@ -33,7 +30,7 @@ pub record HasMovedOn (o : Order) (w group : ℕ) (v after : View) : Type 0 wher
   pub before : ℕ
   pub next : group ≡ suc before
   pub oldest : FoundSince (length v.trail) (Oldest o) before after.trail
-  pub finished : FoundSince (length v.trail) (Count o before) (2 ^ 63) after.trail
+  pub finished : FoundSince (length v.trail) (Count o before) (65536 * before + 2 ^ 63) after.trail
   -- what it knew before its last step
   pub looked : View
   pub only : acts looked.trail ≡ acts v.trail
@@ -44,5 +41,5 @@ pub record HasMovedOn (o : Order) (w group : ℕ) (v after : View) : Type 0 wher
 pub record RunsStill (o : Order) (group count : ℕ) (v after : View) : Type 0 where
   pub oldest : FoundSince (length v.trail) (Oldest o) group after.trail
   pub found : FoundSince (length v.trail) (Count o group) count after.trail
-  pub unfinished : count ≢ 2 ^ 63
+  pub unfinished : count ≢ 65536 * group + 2 ^ 63
   pub only : acts after.trail ≡ acts v.trail

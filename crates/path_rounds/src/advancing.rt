@@ -9,7 +9,7 @@ ghost use Rattle.path_rounds.specs.Passes.{HasMovedOn, MatchAdvance, RunsStill};
 use crate::waiting::advance;
 use op_core::Order;
 use path_core::Keeper;
-use path_table::{EXPIRED, Member, PathTable};
+use path_table::{EXPIRED, Member, ONE_GROUP, PathTable};
 use std::alloc::Allocator;
 
 /// What a try to move the oldest group on answers.
@@ -21,7 +21,7 @@ pub enum Advance {
     Running {
         /// The oldest group.
         group: u64,
-        /// Its count, as it was found.
+        /// The word of its count as it was found, with the group's number and its mark.
         count: u64,
     },
 }
@@ -36,7 +36,7 @@ pub fn try_advance<K: Keeper, A: Allocator>(
     requires table { IsOf path.now.table.shared.table_id path.now.size member.old }
     requires turn { Holds Rest (view_of member.old) }
     ensures same { KeepsSizes member.old member.new }
-    ensures steps { RoundSteps member.old.number [] (view_of member.old) (view_of member.new) }
+    ensures steps { RoundSteps member.old.number 0 [] (view_of member.old) (view_of member.new) }
     ensures turn { Holds Rest (view_of member.new) }
     ensures hands { hands_of member.new ≡ hands_of member.old }
     ensures answer { MatchAdvance result
@@ -48,7 +48,7 @@ pub fn try_advance<K: Keeper, A: Allocator>(
     let current = path.seek_current(member, order);
     let group = path.seek_oldest(member, order);
     let count = path.seek_count(member, order, group);
-    if count != EXPIRED {
+    if count != ONE_GROUP * group + EXPIRED {
         return Advance::Running { group, count };
     }
     advance(path, member, order, group + 1, group, current);

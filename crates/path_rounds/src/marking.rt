@@ -2,7 +2,6 @@
 //! What the seat wrote before ends at or below it.
 ghost use Rattle.std.specs.Prelude.{◌≡◌, ℕ, ◌≤◌, [], false, Some, None, IsSome};
 ghost use Rattle.op_core.specs.declared.count.Order.TheVariants.{Append};
-ghost use Rattle.path_core.specs.declared.event.Event.TheVariants.{Look};
 ghost use Rattle.path_core.specs.declared.event.Place.TheVariants.{Log};
 ghost use Rattle.path_core.specs.Holders.{behind_last};
 ghost use Rattle.path_rule.specs.Calls.{MayGive};
@@ -10,24 +9,16 @@ ghost use Rattle.path_rule.specs.Desks.{HasDesk};
 ghost use Rattle.path_rule.specs.Finds.{Finds};
 ghost use Rattle.path_rule.specs.Lasts.{shows_of};
 ghost use Rattle.path_rule.specs.Rounds.{RoundSteps, WroteBelow};
-ghost use Rattle.path_rule.specs.SyncAnswers.{IsFullBy, KnowsMarker, marker_start};
+ghost use Rattle.path_rule.specs.SyncAnswers.{KnowsMarker, marker_start};
 ghost use Rattle.path_rule.specs.Turns.{FoundRunning, KeepsCurrent};
 ghost use Rattle.path_rounds.specs.Marks.{ClaimsMarker, MarksNext};
-ghost use Rattle.path_table.specs.Members.{
-  view_of,
-  part_of,
-  hands_of,
-  boxes_of,
-  IsOf,
-  IsSame,
-  KeepsSizes,
-  Stepped,
-};
+ghost use Rattle.path_table.specs.Members.{view_of, part_of, hands_of, boxes_of, IsOf, IsSame};
+ghost use Rattle.path_table.specs.Members.{KeepsSizes};
 
 use crate::marker_keys::{is_entry_since, key_behind_marker};
 use path_core::{Keeper, LastMarker};
-use path_rule::{Progress, SyncAnswer};
-use path_table::{GROUPS, Member, PathTable};
+use path_rule::Progress;
+use path_table::{Member, PathTable};
 use std::alloc::Allocator;
 use std::sync::Wait;
 use std::thread::yield_now;
@@ -55,7 +46,7 @@ pub(crate) fn look_since<K: Keeper, A: Allocator>(
     requires marker { KnowsMarker (view_of member.old)
         × (marker ≡ (hands_of member.old).progress.marker) }
     ensures same { KeepsSizes member.old member.new }
-    ensures steps { RoundSteps member.old.number [] (view_of member.old) (view_of member.new) }
+    ensures steps { RoundSteps member.old.number 0 [] (view_of member.old) (view_of member.new) }
     ensures give { MayGive (view_of member.old) → MayGive (view_of member.new) }
     ensures hands { hands_of member.new ≡ hands_of member.old }
     ensures none { result ≡ false
@@ -65,28 +56,6 @@ pub(crate) fn look_since<K: Keeper, A: Allocator>(
 {
     let log = path.look_log(member);
     is_entry_since(path.size().capacity, marker, log)
-}
-
-// What a sync is answered where the last group that there is a word for is current: `Rows`, if
-// an entry was claimed since the last marker, so a further one wants a barrier.
-pub(crate) fn look_full<K: Keeper, A: Allocator>(
-    path: &PathTable<K, A>,
-    member: &mut Member<K>,
-    marker: Option<LastMarker>,
-) -> Option<SyncAnswer>
-    requires { IsOf path.now.table.shared.table_id path.now.size member.old }
-    ensures same { KeepsSizes member.old member.new }
-    ensures looked { (key : ℕ) × Stepped member.old (Look member.old.number Log) key member.new
-        × IsFullBy path.now.size.capacity marker key result }
-    ensures give { MayGive (view_of member.old) → MayGive (view_of member.new) }
-    ensures hands { hands_of member.new ≡ hands_of member.old }
-{
-    let log = path.look_log(member);
-    if is_entry_since(path.size().capacity, marker, log) {
-        Some(SyncAnswer::Rows(GROUPS))
-    } else {
-        None
-    }
 }
 
 // One try to claim the next marker.
@@ -101,7 +70,7 @@ fn claim_once<K: Keeper, A: Allocator>(
     requires runs { FoundRunning (part_of member.old) }
     ensures same { KeepsSizes member.old member.new }
     ensures runs { FoundRunning (part_of member.new) }
-    ensures steps { RoundSteps member.old.number [] (view_of member.old) (view_of member.new) }
+    ensures steps { RoundSteps member.old.number 0 [] (view_of member.old) (view_of member.new) }
     ensures give { MayGive (view_of member.new) }
     ensures claim { ClaimsMarker member.old.number (view_of member.old) result
         (view_of member.new) }
@@ -134,7 +103,7 @@ pub fn claim_next<K: Keeper, A: Allocator, R: Wait>(
     requires desk { HasDesk (shows_of K.holds) (hands_of member).lasting
         (hands_of member).pending (hands_of member).progress (boxes_of member) }
     ensures same { IsSame member result.0 }
-    ensures steps { RoundSteps member.number [] (view_of member) (view_of result.0) }
+    ensures steps { RoundSteps member.number 0 [] (view_of member) (view_of result.0) }
     ensures give { MayGive (view_of result.0) }
     ensures claimed { MarksNext member.number (view_of member) result.1 (view_of result.0) }
     ensures current { KeepsCurrent Append (part_of member) (part_of result.0) }

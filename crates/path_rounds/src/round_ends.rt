@@ -12,24 +12,11 @@ ghost use Rattle.path_rule.specs.Desks.{HasDesk};
 ghost use Rattle.path_rule.specs.Lasts.{shows_of};
 ghost use Rattle.path_rule.specs.Reached.{MayReach, Reaches};
 ghost use Rattle.path_rule.specs.Rounds.{WroteBelow};
-ghost use Rattle.path_rule.specs.SyncAnswers.{
-  said_by,
-  marker_start,
-  Answers,
-  IsHaltedBy,
-  MayAnswer,
-};
+ghost use Rattle.path_rule.specs.SyncAnswers.{said_by, marker_start, Answers, IsHaltedBy};
+ghost use Rattle.path_rule.specs.SyncAnswers.{MayAnswer};
 ghost use Rattle.path_rule.specs.Turns.{FoundRunning, IsBarred};
-ghost use Rattle.path_table.specs.Members.{
-  view_of,
-  part_of,
-  hands_of,
-  boxes_of,
-  IsOf,
-  IsSame,
-  KeepsSizes,
-  Stepped,
-};
+ghost use Rattle.path_table.specs.Members.{view_of, part_of, hands_of, boxes_of, IsOf, IsSame};
+ghost use Rattle.path_table.specs.Members.{KeepsSizes, Stepped};
 
 use crate::ending::end_sync;
 use path_core::{Keeper, KeeperFault, LastMarker};
@@ -92,7 +79,7 @@ pub fn end_round<K: Keeper, A: Allocator>(
     ensures give { MayGive (view_of result.0) }
     ensures desk { HasDesk (shows_of K.holds) (hands_of result.0).lasting
         (hands_of result.0).pending (hands_of result.0).progress (boxes_of result.0) }
-    ensures answer { Answers member.number path.now.size.at_open (view_of member) result.1
+    ensures answer { Answers member.number 0 path.now.size.at_open (view_of member) result.1
         (view_of result.0) }
     ensures reaches { Reaches path.now.size.capacity
         (behind_marker path.now.size.capacity upto) result.1 }
@@ -122,7 +109,7 @@ fn first_round<K: Keeper, A: Allocator>(
     ensures give { MayGive (view_of result.0) }
     ensures desk { HasDesk (shows_of K.holds) (hands_of result.0).lasting
         (hands_of result.0).pending (hands_of result.0).progress (boxes_of result.0) }
-    ensures answer { Answers member.number path.now.size.at_open (view_of member) result.1
+    ensures answer { Answers member.number 0 path.now.size.at_open (view_of member) result.1
         (view_of result.0) }
     ensures reaches { Reaches path.now.size.capacity first_offset result.1 }
 {
@@ -155,7 +142,7 @@ pub(crate) fn old_round<K: Keeper, A: Allocator>(
     ensures give { MayGive (view_of result.0) }
     ensures desk { HasDesk (shows_of K.holds) (hands_of result.0).lasting
         (hands_of result.0).pending (hands_of result.0).progress (boxes_of result.0) }
-    ensures answer { MayAnswer member.number path.now.size.at_open (view_of member) result.1
+    ensures answer { MayAnswer member.number 0 path.now.size.at_open (view_of member) result.1
         (view_of result.0) }
     ensures reaches { MayReach path.now.size.capacity
         (behind_last path.now.size.capacity marker) result.1 }

@@ -1,9 +1,10 @@
 //! A round of a sync, in the hand of the holder of the Sync turn, which has the desk alone: from
 //! the marker over its barrier and the boxes to the end.
-ghost use Rattle.std.specs.Prelude.{◌≡◌, ◌<◌, true, Some, None, []};
+ghost use Rattle.std.specs.Prelude.{◌^◌, ◌+◌, ◌≡◌, ◌<◌, true, Some, None, []};
 ghost use Rattle.op_core.specs.declared.count.Order.TheVariants.{Append};
 ghost use Rattle.path_rule.specs.Calls.{MayGive};
 ghost use Rattle.path_rule.specs.Desks.{HasDesk};
+ghost use Rattle.path_rule.specs.Issued.{issued_in, most_issued};
 ghost use Rattle.path_rule.specs.Lasts.{shows_of};
 ghost use Rattle.path_rule.specs.Reached.{Reaches, ReachesFound};
 ghost use Rattle.path_rule.specs.Rounds.{RoundSteps, WroteBelow};
@@ -12,14 +13,14 @@ ghost use Rattle.path_rule.specs.SyncAnswers.{KnowsMarker, Answers, MayAnswer};
 ghost use Rattle.path_rule.specs.Turns.{FoundRunning, MarkerWaits, TurnSaw};
 ghost use Rattle.path_table.specs.Members.{view_of, part_of, hands_of, boxes_of, IsOf, IsSame};
 
-use crate::marking::{claim_next, look_full, look_since, progress_with};
+use crate::marking::{claim_next, look_since, progress_with};
 use crate::round_ends::{end_round, look_halted, old_round};
 use crate::sweeping::settle;
 use crate::waiting::{Holder, marker_barrier};
 use op_core::Order;
 use path_core::Keeper;
 use path_rule::{Progress, SyncAnswer};
-use path_table::{LAST_GROUP, Member, PathTable};
+use path_table::{Member, PathTable};
 use std::alloc::{Allocator, Global};
 use std::sync::Wait;
 
@@ -41,7 +42,8 @@ pub fn bar_round<K: Keeper, A: Allocator, R: Wait>(
         × ((hands_of member).progress.marker
         ≡ Some (record { by = member.number; start = start; barrier = None })) }
     requires runs { FoundRunning (part_of member) }
-    requires current { TurnSaw Append (part_of member) current × (current < 65535) }
+    requires current { TurnSaw Append (part_of member) current × (current < 2 ^ 47) }
+    requires spends { issued_in (view_of member).trail < most_issued }
     requires desk { HasDesk (shows_of K.holds) (hands_of member).lasting
         (hands_of member).pending (hands_of member).progress (boxes_of member) }
     requires opened { (hands_of member).lasting.at_open ≡ path.now.size.at_open }
@@ -50,7 +52,7 @@ pub fn bar_round<K: Keeper, A: Allocator, R: Wait>(
     ensures give { MayGive (view_of result.0) }
     ensures desk { HasDesk (shows_of K.holds) (hands_of result.0).lasting
         (hands_of result.0).pending (hands_of result.0).progress (boxes_of result.0) }
-    ensures answer { Answers member.number path.now.size.at_open (view_of member) result.1
+    ensures answer { Answers member.number 1 path.now.size.at_open (view_of member) result.1
         (view_of result.0) }
     ensures reaches { Reaches path.now.size.capacity start result.1 }
 {
@@ -78,7 +80,7 @@ fn settled<K: Keeper, A: Allocator, R: Wait>(
     requires desk { HasDesk (shows_of K.holds) (hands_of member).lasting
         (hands_of member).pending (hands_of member).progress (boxes_of member) }
     ensures same { IsSame member result }
-    ensures steps { RoundSteps member.number [] (view_of member) (view_of result) }
+    ensures steps { RoundSteps member.number 0 [] (view_of member) (view_of result) }
     ensures give { MayGive (view_of result) }
     ensures swept { SweptAll (hands_of member) (hands_of result) }
     ensures desk { HasDesk (shows_of K.holds) (hands_of result).lasting
@@ -92,8 +94,8 @@ fn settled<K: Keeper, A: Allocator, R: Wait>(
 }
 
 // Where an entry was claimed since the last marker, and all boxes are gathered: a further
-// marker is claimed, unless the log has stopped, or there is no group left for its barrier: a
-// stopped log takes no group. `None` where no entry was.
+// marker is claimed, unless the log has stopped: a stopped log takes no group. `None` where no
+// entry was.
 fn new_round<K: Keeper, A: Allocator, R: Wait>(
     path: &PathTable<K, A>,
     rt: &R,
@@ -106,11 +108,12 @@ fn new_round<K: Keeper, A: Allocator, R: Wait>(
     requires desk { HasDesk (shows_of K.holds) (hands_of member).lasting
         (hands_of member).pending (hands_of member).progress (boxes_of member) }
     requires opened { (hands_of member).lasting.at_open ≡ path.now.size.at_open }
+    requires spends { issued_in (view_of member).trail < most_issued }
     ensures same { IsSame member result.0 }
     ensures give { MayGive (view_of result.0) }
     ensures desk { HasDesk (shows_of K.holds) (hands_of result.0).lasting
         (hands_of result.0).pending (hands_of result.0).progress (boxes_of result.0) }
-    ensures answer { MayAnswer member.number path.now.size.at_open (view_of member) result.1
+    ensures answer { MayAnswer member.number 1 path.now.size.at_open (view_of member) result.1
         (view_of result.0) }
     ensures reaches { ReachesFound path.now.size.capacity (view_of member).trail result.1 }
 {
@@ -120,10 +123,6 @@ fn new_round<K: Keeper, A: Allocator, R: Wait>(
         return (member, halted);
     }
     let current = path.seek_current(&mut member, Order::Append);
-    if current == LAST_GROUP {
-        let answer = look_full(path, &mut member, progress.marker);
-        return (member, answer);
-    }
     let (member, claimed) = claim_next(path, rt, member, progress);
     let Some(start) = claimed else {
         return (member, None);
@@ -147,11 +146,12 @@ pub fn sync_round<K: Keeper, A: Allocator, R: Wait>(
     requires desk { HasDesk (shows_of K.holds) (hands_of member).lasting
         (hands_of member).pending (hands_of member).progress (boxes_of member) }
     requires opened { (hands_of member).lasting.at_open ≡ path.now.size.at_open }
+    requires spends { issued_in (view_of member).trail < most_issued }
     ensures same { IsSame member result.0 }
     ensures give { MayGive (view_of result.0) }
     ensures desk { HasDesk (shows_of K.holds) (hands_of result.0).lasting
         (hands_of result.0).pending (hands_of result.0).progress (boxes_of result.0) }
-    ensures answer { MayAnswer member.number path.now.size.at_open (view_of member) result.1
+    ensures answer { MayAnswer member.number 1 path.now.size.at_open (view_of member) result.1
         (view_of result.0) }
     ensures reaches { ReachesFound path.now.size.capacity (view_of member).trail result.1 }
 {

@@ -1,7 +1,7 @@
 //! The holder of the Sync turn gathers the boxes of all seats, one by one. It has the desk alone in
 //! hand between two boxes, and what it took out of a box is pending on the desk before the box goes
 //! home.
-ghost use Rattle.std.specs.Prelude.{◌≡◌, ◌<◌, []};
+ghost use Rattle.std.specs.Prelude.{◌^◌, ◌+◌, ◌≡◌, ◌<◌, []};
 ghost use Rattle.op_core.specs.declared.count.Order.TheVariants.{Append};
 ghost use Rattle.path_core.specs.declared.seat.Issue.TheVariants.{Rest};
 ghost use Rattle.path_rule.specs.Calls.{Holds};
@@ -31,13 +31,13 @@ fn gather_box<K: Keeper, A: Allocator>(
 ) -> (Member<K>, bool)
     requires table { IsOf path.now.table.shared.table_id path.now.size member }
     requires turn { Holds Rest (view_of member) × TurnSaw Append (part_of member) current
-        × (current < 65536) }
+        × (current < 2 ^ 47) }
     requires more { ((hands_of member).swept ≡ swept) × (swept < path.now.size.seats)
         × (path.now.size.seats < 65536) }
     requires desk { HasDesk (shows_of K.holds) (hands_of member).lasting
         (hands_of member).pending (hands_of member).progress (boxes_of member) }
     ensures same { IsSame member result.0 }
-    ensures steps { RoundSteps member.number [] (view_of member) (view_of result.0) }
+    ensures steps { RoundSteps member.number 0 [] (view_of member) (view_of result.0) }
     ensures turn { Holds Rest (view_of result.0) × TurnSaw Append (part_of result.0) current }
     ensures swept { SweepsOne path.now.size.seats current (hands_of member) result.1
         (hands_of result.0) }
@@ -67,13 +67,13 @@ pub fn gather_all<K: Keeper, A: Allocator, R: Wait>(
 ) -> Member<K>
     requires table { IsOf path.now.table.shared.table_id path.now.size member }
     requires turn { Holds Rest (view_of member) × TurnSaw Append (part_of member) current
-        × (current < 65536) }
+        × (current < 2 ^ 47) }
     requires fresh { ((hands_of member).swept ≡ 0)
         × (progress ≡ (hands_of member).progress) }
     requires desk { HasDesk (shows_of K.holds) (hands_of member).lasting
         (hands_of member).pending (hands_of member).progress (boxes_of member) }
     ensures same { IsSame member result }
-    ensures steps { RoundSteps member.number [] (view_of member) (view_of result) }
+    ensures steps { RoundSteps member.number 0 [] (view_of member) (view_of result) }
     ensures turn { Holds Rest (view_of result) }
     ensures swept { SweptAll (hands_of member) (hands_of result) }
     ensures desk { HasDesk (shows_of K.holds) (hands_of result).lasting
@@ -115,7 +115,7 @@ pub fn settle<K: Keeper, A: Allocator, R: Wait>(
     requires desk { HasDesk (shows_of K.holds) (hands_of member).lasting
         (hands_of member).pending (hands_of member).progress (boxes_of member) }
     ensures same { IsSame member result }
-    ensures steps { RoundSteps member.number [] (view_of member) (view_of result) }
+    ensures steps { RoundSteps member.number 0 [] (view_of member) (view_of result) }
     ensures turn { Holds Rest (view_of result) }
     ensures swept { SweptAll (hands_of member) (hands_of result) }
     ensures desk { HasDesk (shows_of K.holds) (hands_of result).lasting
@@ -123,6 +123,6 @@ pub fn settle<K: Keeper, A: Allocator, R: Wait>(
 {
     let mut member = member;
     let current = path.seek_current(&mut member, Order::Append);
-    let holder = advance_to(path, rt, Holder { member }, Order::Append, current);
+    let holder = advance_to(path, rt, Holder { member }, Order::Append, current, current);
     gather_all(path, rt, alloc, holder.member, progress, current)
 }

@@ -1,5 +1,6 @@
 -- The log: the last marker, and what is pending up to it.
 pub mod BuiltSteps
+pub mod Issues
 pub mod Lending
 pub mod Marks
 pub mod Behind

@@ -1,23 +1,6 @@
 -- The memtables that accepted a deposited write, and what the close of the write carries.
-use Rattle.std.specs.Prelude.{
-  ◌≡◌,
-  ◌≢◌,
-  ℕ,
-  zero,
-  suc,
-  ◌+◌,
-  ◌<◌,
-  true,
-  ◌/◌,
-  ◌%◌,
-  ◌==◌,
-  if◌then◌else◌,
-  List,
-  [],
-  ◌∷◌,
-  Some,
-  IsTrue,
-}
+use Rattle.std.specs.Prelude.{◌^◌, ◌≡◌, ◌≢◌, ℕ, zero, suc, ◌+◌, ◌<◌, true, ◌/◌, ◌%◌, ◌==◌}
+use Rattle.std.specs.Prelude.{if◌then◌else◌, List, [], ◌∷◌, Some, IsTrue}
 use Rattle.std.specs.Option.{option_map_or}
 use Rattle.clog_base.specs.declared.cell.Table.{Table}
 use Rattle.path_core.specs.declared.seat.Seat.{Seat}
@@ -50,10 +33,10 @@ places_of s = places_from (place_at s) (tables_noted s) 0 (tables_noted s)
 
 -- What a bound, found at the memtable that a write with this end tries, makes of what its seat does
 -- at the table: one that takes the write is its place; behind one that is final below it the next
--- is tried, for which there is a word; at a raising one nothing is settled.
+-- is tried, whose number fits its word; at a raising one nothing is settled.
 pub record TriesBound (end m : ℕ) (b : Bound) (after : SeatTable) : Type 0 where
   pub takes : takes end b ≡ true → after.place ≡ Some m
-  pub later : is_final_below end b ≡ true → (after.trying ≡ Some (m + 1)) × (m + 1 < 256)
+  pub later : is_final_below end b ≡ true → (after.trying ≡ Some (m + 1)) × (m + 1 < 2 ^ 47)
   pub raising : is_raising b ≡ true → after.trying ≡ Some m
   pub found : after.bound ≡ Some (record { memtable = m; bound = b })
 

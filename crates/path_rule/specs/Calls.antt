@@ -1,27 +1,7 @@
 -- What the calls say of a seat's view before and after.
-use Rattle.std.specs.Prelude.{
-  ◌≡◌,
-  ◌≢◌,
-  ◌⊎◌,
-  ℕ,
-  suc,
-  ◌+◌,
-  ◌<◌,
-  ◌≤◌,
-  ◌^◌,
-  false,
-  cond,
-  Bool,
-  true,
-  List,
-  [],
-  ◌∷◌,
-  length,
-  Some,
-  None,
-  is_some,
-  IsTrue,
-}
+use Rattle.std.specs.Prelude.{◌≡◌, ◌≢◌, ◌⊎◌, ℕ, suc, ◌+◌, ◌<◌, ◌≤◌, ◌^◌, false, cond, Bool, true}
+use Rattle.std.specs.Prelude.{List, [], ◌∷◌, length, Some, None, is_some, IsTrue}
+use Rattle.op_core.specs.CountWords.{number_in}
 use Rattle.op_core.specs.declared.count.Order.{Order}
 use Rattle.path_core.specs.declared.event.Event.{Event}
 use Rattle.path_core.specs.declared.event.Event.TheVariants.{Look, Register}
@@ -71,22 +51,25 @@ FoundSince before at n [] = ⊥
 FoundSince before at n (t ∷ ts) = ((before ≤ length ts) × (place_of t.event ≡ at) × (t.found ≡ n))
     ⊎ FoundSince before at n ts
 
--- the view after a look at the current group of an order, which found g, and one at its count
+-- the view after a look at the current group of an order, which found g, and one at the word of its
+-- count, which found k: the count of the group whose number stands there
 abbrev pub looked_twice : View → ℕ → Order → ℕ → ℕ → View
 looked_twice v w o g k = view_after (view_after v (Look w (Current o)) g)
-    (Look w (Count o g)) k
+    (Look w (Count o (number_in k))) k
 
 -- Seat w registered in group g, whose count it had found to be `looked`.
 pub record Started (v : View) (w : ℕ) (o : Order) (g : ℕ) (after : View) : Type 0 where
   pub looked : ℕ
   pub did : Did (looked_twice v w o g looked) w (Register w o g) (looked + 1) after
 
--- Seat w only looked: it found the count `looked` and then `found`, which is expired or another.
+-- Seat w only looked: it found the word `looked`, which is expired or of another group, or then the
+-- word `found`, which is another.
 pub record Refused (v : View) (w : ℕ) (o : Order) (looked found : ℕ) (after : View) : Type 0 where
   pub group : ℕ
   pub view : (after ≡ looked_twice v w o group looked)
-      ⊎ (after ≡ view_after (looked_twice v w o group looked) (Look w (Count o group)) found)
-  pub cause : (2 ^ 63 ≤ looked) ⊎ (found ≢ looked)
+      ⊎ (after ≡ view_after (looked_twice v w o group looked) (Look w (Count o (number_in found)))
+      found)
+  pub cause : (2 ^ 63 ≤ looked) ⊎ (number_in looked ≢ group) ⊎ (found ≢ looked)
 
 -- The seat holds the Sync turn, with no box of another seat, at this issue.
 pub record Holds (i : Issue) (v : View) : Type 0 where

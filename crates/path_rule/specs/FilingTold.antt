@@ -1,37 +1,15 @@
 -- What the holder of the Sync turn and of a table's Flush turn knows where it files a memtable, and
 -- what its steps tell then.
-use Rattle.std.specs.Prelude.{
-  ◌≡◌,
-  ◌≢◌,
-  ◌⊎◌,
-  [],
-  ℕ,
-  suc,
-  ◌+◌,
-  ◌*◌,
-  ◌^◌,
-  ◌<◌,
-  ◌≤◌,
-  ◌++◌,
-  Bool,
-  true,
-  false,
-  List,
-  Option,
-  Some,
-  None,
-}
+use Rattle.std.specs.Prelude.{◌≡◌, ◌≢◌, ◌⊎◌, [], ℕ, suc, ◌+◌, ◌*◌, ◌^◌, ◌<◌, ◌≤◌, ◌++◌, Bool, true}
+use Rattle.std.specs.Prelude.{false, List, Option, Some, None}
 use Rattle.std.specs.List.{AllPairs, Contains}
 use Rattle.atomic_table.specs.Table.{Me, Step}
 use Rattle.clog_base.specs.declared.cell.Cell.{Cell}
 use Rattle.clog_base.specs.declared.cell.CellKey.{CellKey}
 use Rattle.clog_base.specs.declared.cell.Table.{Table}
 use Rattle.clog_cells.specs.Merge.{IsMergeOf}
-use Rattle.path_core.specs.declared.event.Cursor.TheVariants.{
-  OldestLive,
-  Stopped as StoppedCursor,
-  Synced,
-}
+use Rattle.path_core.specs.declared.event.Cursor.TheVariants.{OldestLive, Stopped as StoppedCursor}
+use Rattle.path_core.specs.declared.event.Cursor.TheVariants.{Synced}
 use Rattle.path_core.specs.declared.event.Event.{Event}
 use Rattle.path_core.specs.declared.event.Event.TheVariants.{Look, Put}
 use Rattle.path_core.specs.declared.event.Place.TheVariants.{CursorWord}
@@ -50,6 +28,7 @@ use Rattle.path_rule.specs.declared.view.Hands.{Hands}
 use Rattle.path_rule.specs.declared.view.Role.TheVariants.{Steps}
 use Rattle.path_rule.specs.declared.view.View.{View}
 use Rattle.path_rule.specs.Filing.{IsCellIn, MayGo, MayPut, more_filed, upper_of}
+use Rattle.path_rule.specs.Finds.{Finds}
 use Rattle.path_rule.specs.HandsAfter.{with_desk, with_reading}
 use Rattle.path_rule.specs.Retires.{RetiresFiledIn}
 use Rattle.path_rule.specs.Rule.{view_filed, with_hands, Was}
@@ -144,8 +123,9 @@ abbrev pub MadeFiled : ℕ → Event → ℕ → ℕ → Hands → View → View
 MadeFiled w e n lower h v v' = (v' ≡ view_filed (with_hands h v) e n lower) × Was v w e
 
 module _ {K : Type 0} where
-  -- The synced key was found. Where the log is lasting up to the bound of a memtable that was seen
-  -- whole, the file of what was seen may be put.
+  -- The synced key was found: the log goes on behind it at or above where it does behind each one
+  -- that the seat had found. Where it is lasting up to the bound of a memtable that was seen whole,
+  -- the file of what was seen may be put.
   abbrev pub FiledFound : Step (Slot K) → Me (Slot K) View → ℕ → Me (Slot K) View → Type 0
   FiledFound st m n m' = (w : ℕ) → m.0.role ≡ Steps w
       → Made w (Look w (CursorWord Synced)) n m m'
@@ -154,6 +134,8 @@ module _ {K : Type 0} where
       → bound ≤ after m.0.size.capacity n → AreSeen q t cells
       → MayPut m.0.hands.lasting (next_file m.0.hands.lasting t bound cells))
       × (n < 2 ^ 62)
+      × ((key : ℕ) → Finds (CursorWord Synced) key m.0.trail
+      → after m.0.size.capacity key ≤ after m.0.size.capacity n)
 
 module _ {K : Type 0} (shows : K → Lasting) where
   -- The keeper on the desk has put this file behind the others.

@@ -1,5 +1,5 @@
 -- The holder of a table's Flush turn reads what lies in the boxes of a memtable behind its barrier.
-use Rattle.std.specs.Prelude.{◌≡◌, ℕ, zero, suc, ◌+◌, ◌*◌, ◌<◌, List, [], ◌∷◌, Some, None}
+use Rattle.std.specs.Prelude.{◌≡◌, ℕ, zero, suc, ◌+◌, ◌*◌, ◌%◌, ◌<◌, List, [], ◌∷◌, Some, None}
 use Rattle.std.specs.List.{Contains}
 use Rattle.atomic_table.specs.Table.{Me, Step, rest}
 use Rattle.clog_base.specs.declared.cell.Table.{Table}
@@ -20,6 +20,7 @@ use Rattle.path_rule.specs.HandsAfter.{box_read, box_seen, first_read, with_read
 use Rattle.path_rule.specs.Layout.{bound_word}
 use Rattle.path_rule.specs.Retires.{RetiresEmptyIn}
 use Rattle.path_rule.specs.Rule.{Was}
+use Rattle.path_rule.specs.Switches.{FlushOldest}
 use Rattle.path_rule.specs.Told.{MadeAs}
 
 -- Where a reader looks up the key above which the interval of a memtable begins: the bound of the
@@ -66,7 +67,7 @@ module _ {K : Type 0} where
   -- read from now on: its interval begins above that key.
   abbrev pub NextBegun : Step (Slot K) → Me (Slot K) View → ℕ → Me (Slot K) View → Type 0
   NextBegun st m n m' = (w k : ℕ) (t : Table) → m.0.role ≡ Steps w → t.0 < 16
-      → st.word ≡ 131144 + 16 * k + t.0
+      → FlushOldest t.0 m.0.part (suc k) → st.word ≡ 136 + 16 * (k % 4) + t.0
       → (above : ℕ) × (n ≡ bound_word (Final (record { 0 = above })))
       × MadeAs w (Look w (Bound t k)) n
       (with_reading (Some (first_read t.0 (suc k) above)) m.0.hands) m.0 m'.0

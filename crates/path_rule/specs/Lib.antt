@@ -15,6 +15,7 @@ pub mod Finds
 pub mod FindsBounds
 pub mod TrailRows
 pub mod Trails
+pub mod Issued
 pub mod Rule
 pub mod Trimmed
 pub mod HandsAfter
@@ -24,6 +25,7 @@ pub mod Told
 pub mod TurnTold
 pub mod TableTold
 pub mod FilingTold
+pub mod PaidFor
 pub mod ReadBound
 pub mod Desks
 pub mod Calls

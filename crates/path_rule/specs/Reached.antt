@@ -3,12 +3,7 @@ use Rattle.std.specs.Prelude.{ℕ, ◌≤◌, List, Option, Some, None}
 use Rattle.path_core.specs.declared.event.Place.TheVariants.{Log}
 use Rattle.path_core.specs.Keys.{after}
 use Rattle.path_rule.specs.declared.answer.SyncAnswer.{SyncAnswer}
-use Rattle.path_rule.specs.declared.answer.SyncAnswer.TheVariants.{
-  Done,
-  Stopped,
-  OutOfMemory,
-  Rows,
-}
+use Rattle.path_rule.specs.declared.answer.SyncAnswer.TheVariants.{Done, Stopped, OutOfMemory}
 use Rattle.path_rule.specs.declared.view.OwnStep.{OwnStep}
 use Rattle.path_rule.specs.Finds.{Finds}
 
@@ -18,7 +13,6 @@ abbrev pub Reaches : ℕ → ℕ → SyncAnswer → Type 0
 Reaches capacity key (Done s) = key ≤ after capacity s
 Reaches capacity key (Stopped at_open now) = Unit {0}
 Reaches capacity key OutOfMemory = Unit {0}
-Reaches capacity key (Rows n) = Unit {0}
 
 -- the same of an answer, if there was one
 abbrev pub MayReach : ℕ → ℕ → Option SyncAnswer → Type 0

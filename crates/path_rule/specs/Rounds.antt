@@ -4,42 +4,23 @@ use Rattle.path_core.specs.declared.event.Carried.TheVariants.{Deposit}
 use Rattle.path_core.specs.declared.event.ClaimKind.TheVariants.{Marker}
 use Rattle.path_core.specs.declared.event.Cursor.TheVariants.{Synced, Stopped}
 use Rattle.path_core.specs.declared.event.Event.{Event}
-use Rattle.path_core.specs.declared.event.Event.TheVariants.{
-  Look,
-  Close,
-  OpenGroup,
-  MoveCurrent,
-  Expire,
-  Advance,
-  Claim,
-  TakeTurn,
-  GiveTurn,
-  Put,
-}
-use Rattle.path_core.specs.declared.event.Place.TheVariants.{
-  Count,
-  Current,
-  Oldest,
-  Log,
-  TurnWord,
-  CursorWord,
-}
+use Rattle.path_core.specs.declared.event.Event.TheVariants.{Look, Close, OpenGroup, MoveCurrent}
+use Rattle.path_core.specs.declared.event.Event.TheVariants.{Expire, Advance, Claim, TakeTurn}
+use Rattle.path_core.specs.declared.event.Event.TheVariants.{GiveTurn, Put}
+use Rattle.path_core.specs.declared.event.Place.TheVariants.{Count, Current, Oldest, Log, TurnWord}
+use Rattle.path_core.specs.declared.event.Place.TheVariants.{CursorWord}
 use Rattle.path_core.specs.declared.event.Turn.TheVariants.{Sync}
 use Rattle.path_core.specs.declared.seat.FlushTurn.{FlushTurn}
 use Rattle.path_core.specs.declared.seat.Seat.{Seat}
 use Rattle.path_core.specs.declared.seat.SeatTable.{SeatTable}
 use Rattle.path_core.specs.declared.seat.Switching.{Switching}
-use Rattle.path_core.specs.declared.seat.Switching.TheVariants.{
-  Begun,
-  Marked,
-  Settled,
-  Waiting,
-  WithBarrier,
-}
+use Rattle.path_core.specs.declared.seat.Switching.TheVariants.{Begun, Marked, Settled, Waiting}
+use Rattle.path_core.specs.declared.seat.Switching.TheVariants.{WithBarrier}
 use Rattle.path_core.specs.Next.{has_filed}
 use Rattle.path_core.specs.Parts.{IsIdle, seat_table}
 use Rattle.path_rule.specs.declared.view.OwnStep.{OwnStep}
 use Rattle.path_rule.specs.declared.view.View.{View}
+use Rattle.path_rule.specs.Issued.{issued_in}
 
 -- seat w makes the step for a barrier or a sync
 abbrev pub IsRoundStep : ℕ → Event → Type 0
@@ -93,12 +74,14 @@ IsQuietStage (WithBarrier m group) = Unit {0}
 abbrev pub IsQuiet : SeatTable → Type 0
 IsQuiet st = (turn : FlushTurn) → st.flush ≡ Some turn → IsQuietStage turn.stage
 
--- Seat w went from one view to another by such steps alone, of which these put a cursor, the newest
--- first. Where it ran no write it runs none, and it filed nothing with the turn in hand.
-pub record RoundSteps (w : ℕ) (puts : List Event) (v after : View) : Type 0 where
+-- Seat w went from one view to another by such steps alone, of which at most n issued a barrier,
+-- and these put a cursor, the newest first. Where it ran no write it runs none, and it filed
+-- nothing with the turn in hand.
+pub record RoundSteps (w n : ℕ) (puts : List Event) (v after : View) : Type 0 where
   pub steps : List OwnStep
   pub trail : after.trail ≡ steps ++ v.trail
   pub are : AreRoundSteps w steps
+  pub issues : issued_in steps ≤ n
   pub puts_are : puts_of steps ≡ puts
   pub rests : IsAtRest v.part → IsAtRest after.part
   pub idles : IsIdle v.part → v.part.claim ≡ None → IsIdle after.part × (after.part.claim ≡ None)
@@ -110,7 +93,6 @@ pub record RoundSteps (w : ℕ) (puts : List Event) (v after : View) : Type 0 wh
   pub size : after.size ≡ v.size
 
 -- Each note that the seat deposited ends at or below a key.
-
 abbrev pub EndsBelow : ℕ → Event → Type 0
 EndsBelow key (Close by order g (Deposit note)) = note.end.0 ≤ key
 EndsBelow key _ = Unit {0}

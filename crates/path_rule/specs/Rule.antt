@@ -1,25 +1,7 @@
 -- The rule of the shared table: there is a run of the machine from its opening, in which each step
 -- was allowed, and its last state is what the words, the views and the boxes show.
-use Rattle.std.specs.Prelude.{
-  ◌≡◌,
-  ◌≢◌,
-  ℕ,
-  ◌<◌,
-  ◌≤◌,
-  ◌==◌,
-  cond,
-  false,
-  List,
-  [],
-  ◌∷◌,
-  map,
-  length,
-  slice_index,
-  Option,
-  Some,
-  None,
-  is_some,
-}
+use Rattle.std.specs.Prelude.{◌+◌, ◌≡◌, ◌≢◌, ℕ, ◌<◌, ◌≤◌, ◌==◌, cond, false, List, [], ◌∷◌, map}
+use Rattle.std.specs.Prelude.{length, slice_index, Option, Some, None, is_some}
 use mathlib.Core.Option.{some}
 use lib.ListN.{get_elem?}
 use base.Stored.{gnil}
@@ -37,12 +19,7 @@ use Rattle.path_core.specs.declared.state.PathState.{PathState}
 use Rattle.path_core.specs.Allowed.{IsStep, WantsBarrier}
 use Rattle.path_core.specs.Keeper.{HasRisen}
 use Rattle.path_core.specs.Lawful.{IsLawfulPath}
-use Rattle.path_core.specs.Parts.{
-  fresh_seat,
-  seat_of,
-  groups_of,
-  table_of,
-}
+use Rattle.path_core.specs.Parts.{fresh_seat, seat_of, groups_of, table_of}
 use Rattle.path_core.specs.Runs.{opening, Past}
 use Rattle.path_core.specs.SeatAfter.{Told, seat_after}
 use Rattle.path_core.specs.Whole.{CarriesWhole}
@@ -61,20 +38,15 @@ use Rattle.path_rule.specs.declared.view.View.{View}
 use Rattle.path_rule.specs.Boxed.{Boxed}
 use Rattle.path_rule.specs.Boxes.{all_boxes}
 use Rattle.path_rule.specs.Filing.{HasFiled}
+use Rattle.path_rule.specs.Issued.{issues_of, most_issued, opens_of}
+use Rattle.path_rule.specs.Limits.{made_below, most_memtables}
 use Rattle.path_rule.specs.Kept.{MayBeKept}
 use Rattle.path_rule.specs.Lasts.{none_filed, none_lasting, shown}
 use Rattle.path_rule.specs.Memtables.{HasMemtables}
 use Rattle.path_rule.specs.Reads.{ReadsAs}
 use Rattle.path_rule.specs.Trails.{TrailTells, ViewTells}
-use Rattle.path_rule.specs.Layout.{
-  word_at,
-  IsWord,
-  word_of,
-  reading_at,
-  word_rows,
-  group_rows,
-  memtable_rows,
-}
+use Rattle.path_rule.specs.Layout.{word_at, IsShown, word_for, reading_at, word_rows, group_rows}
+use Rattle.path_rule.specs.Layout.{memtable_rows}
 
 -- the machine's opening
 abbrev pub start_of : PathSize → PathState
@@ -213,10 +185,11 @@ AreBuilt opened x [] y run = Unit {0}
 AreBuilt opened x (e ∷ es) y run =
     IsBuilt opened run.0 e × AreBuilt opened x es run.0 run.1
 
--- There are words for all groups and memtables that were made.
+-- The numbers of all groups and memtables that were made fit their words.
 pub record HasRows (x : PathState) : Type 0 where
   pub groups : (o : Order) → length (groups_of x o).tallies ≤ group_rows
   pub memtables : (t : ℕ) → length (table_of x t).memtables ≤ memtable_rows
+  pub all : made_below 16 x ≤ most_memtables
 
 -- The rule. It has no law of its own: the law of the machine holds in each state that a run leads
 -- to.
@@ -235,11 +208,15 @@ pub record Ruled {K : Type 0} (shows : K → Lasting) (o : Beside) (size : PathS
   pub fit : IsFit size
   pub wide : length s.words ≡ word_rows
   pub rows : HasRows core
+  -- no seat has issued more barriers than it may
+  pub few : (w : ℕ) → issues_of (steps_by w events) ≤ most_issued
+  -- and it has issued one for each memtable that it made, but for the last
+  pub paid : (w : ℕ) → opens_of (steps_by w events) ≤ issues_of (steps_by w events) + 1
   pub long : length core.seats ≡ size.seats
   pub enough : made ≤ size.seats
-  -- each word shows what the machine reads at its place
-  pub words : (at : Place) → IsWord at
-      → slice_index s.words (word_at at) ≡ word_of (reading core at)
+  -- each word shows what the machine reads at the place that it is of
+  pub words : (at : Place) → IsShown core at
+      → slice_index s.words (word_at at) ≡ word_for at (reading core at)
   -- seats that were not handed out have made no step
   pub fresh : (w : ℕ) → made ≤ w → (steps_by w events ≡ []) × (seat_of core w ≡ fresh_seat)
   pub deep : length s.homes ≡ all_boxes size.seats

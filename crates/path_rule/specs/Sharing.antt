@@ -95,7 +95,7 @@ pub record Ended (o : Beside) (size : PathSize) (returned : List Returned) (log 
   -- each step was of a kind that is built
   pub built : AreBuilt size.at_open (start_of size) events core run
   pub lawful : IsLawfulPath core
-  -- there are words for all groups and memtables that it made
+  -- the numbers of all groups and memtables that it made fit their words
   pub rows : HasRows core
   pub log_is : log ≡ core.log
   pub kept_to : ℕ

@@ -36,6 +36,11 @@ abbrev pub FlushOldest : ℕ → Seat → ℕ → Type 0
 FlushOldest t p n = (turn : FlushTurn) × ((seat_table p t).flush ≡ Some turn)
     × (turn.oldest_live ≡ Some n)
 
+-- the place of this memtable, which is to come, is cleared
+abbrev pub FlushCleared : ℕ → Seat → ℕ → Type 0
+FlushCleared t p n = (turn : FlushTurn) × ((seat_table p t).flush ≡ Some turn)
+    × (turn.cleared ≡ Some n)
+
 -- An earlier holder of the turn switched the memtable, and left it: the seat began no switch, and
 -- the memtable lies below the newest.
 abbrev pub IsLeft : ℕ → Seat → ℕ → Type 0

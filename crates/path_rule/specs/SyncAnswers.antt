@@ -1,48 +1,24 @@
 -- What a sync answers, and what is so then of its seat.
-use Rattle.std.specs.Prelude.{
-  ◌≡◌,
-  ◌⊎◌,
-  ℕ,
-  suc,
-  ◌<◌,
-  ◌≤◌,
-  List,
-  [],
-  ◌∷◌,
-  Option,
-  Some,
-  None,
-  Result,
-  Ok,
-  Err,
-}
+use Rattle.std.specs.Prelude.{◌≡◌, ◌⊎◌, ℕ, ◌<◌, ◌≤◌, List, [], ◌∷◌, Option, Some, None, Result, Ok}
+use Rattle.std.specs.Prelude.{Err}
 use Rattle.std.specs.Option.{option_map_or}
-use Rattle.op_core.specs.declared.count.Order.TheVariants.{Append}
 use Rattle.path_core.specs.declared.event.Cursor.TheVariants.{Synced, Stopped as StoppedCursor}
 use Rattle.path_core.specs.declared.event.Event.{Event}
 use Rattle.path_core.specs.declared.event.Event.TheVariants.{Put}
-use Rattle.path_core.specs.declared.event.Place.TheVariants.{Current, CursorWord}
+use Rattle.path_core.specs.declared.event.Place.TheVariants.{CursorWord}
 use Rattle.path_core.specs.declared.keeper.KeeperFault.{KeeperFault}
+use Rattle.path_core.specs.declared.keeper.KeeperFault.TheVariants.{Stopped as KeeperStopped}
 use Rattle.path_core.specs.declared.keeper.KeeperFault.TheVariants.{
-  Stopped as KeeperStopped,
   OutOfMemory as KeeperOutOfMemory,
 }
 use Rattle.path_core.specs.declared.seat.LastMarker.{LastMarker}
 use Rattle.path_core.specs.declared.seat.SyncTurn.{SyncTurn}
-use Rattle.path_core.specs.Holders.{behind_last}
 use Rattle.path_core.specs.Keeper.{HasRisen}
-use Rattle.path_core.specs.Parts.{found_of}
 use Rattle.path_rule.specs.declared.answer.SyncAnswer.{SyncAnswer}
-use Rattle.path_rule.specs.declared.answer.SyncAnswer.TheVariants.{
-  Done,
-  Stopped,
-  OutOfMemory,
-  Rows,
-}
+use Rattle.path_rule.specs.declared.answer.SyncAnswer.TheVariants.{Done, Stopped, OutOfMemory}
 use Rattle.path_rule.specs.declared.view.OwnStep.{OwnStep}
 use Rattle.path_rule.specs.declared.view.View.{View}
 use Rattle.path_rule.specs.Finds.{Finds}
-use Rattle.path_rule.specs.Layout.{group_rows}
 use Rattle.path_rule.specs.Rounds.{RoundSteps, WroteBelow}
 
 -- The last marker that the holder of the Sync turn keeps is the one that the desk tells.
@@ -63,29 +39,6 @@ said_by (Err KeeperOutOfMemory) = OutOfMemory
 abbrev pub AtMost : Event → List Event → Type 0
 AtMost e puts = (puts ≡ []) ⊎ (puts ≡ e ∷ [])
 
--- An entry was claimed since the last marker, so a further one is wanted: the seat found the log
--- key above the one at which the log went on behind that marker.
-pub record WantsMarker (v : View) : Type 0 where
-  pub key : ℕ
-  pub found : v.part.found.log ≡ Some key
-  pub since : behind_last v.size.capacity v.hands.progress.marker < key
-
--- The seat found the last group of the append order that there is a word for current, and the
--- barrier of a marker that is wanted wants the next one: so many were made. It had found the log
--- running.
-pub record HasNoGroup (n : ℕ) (v : View) : Type 0 where
-  pub last : ℕ
-  -- it found this group current
-  pub found : (found_of Append v.part).current ≡ Some last
-  -- the next one has the number that is answered
-  pub next : suc last ≡ n
-  -- and there is no word for it
-  pub all : n ≡ group_rows
-  -- it is wanted
-  pub wanted : WantsMarker v
-  -- and the keeper had not stopped
-  pub running : v.part.found.stopped ≡ Some 0
-
 -- What is so behind an answer, where `opened` is the count of faults at the keeper's opening, and
 -- the seat put these cursors. Done: all that the seat wrote ends at or below the synced key that it
 -- found or put. Stopped: it found or put this count. Else it put nothing, so all is pending still.
@@ -96,29 +49,25 @@ IsAnswer w opened (Stopped at_open now) puts v =
     (at_open ≡ opened) × HasRisen at_open now × (v.part.found.stopped ≡ Some now)
     × AtMost (Put w StoppedCursor now) puts
 IsAnswer w opened OutOfMemory puts v = puts ≡ []
-IsAnswer w opened (Rows n) puts v = HasNoGroup n v × (puts ≡ [])
 
--- What is answered was found, or put, at one of these steps. Rows: the last group that there is a
--- word for was found current, and the log running.
+-- What is answered was found, or put, at one of these steps.
 abbrev pub FoundNow : SyncAnswer → List OwnStep → Type 0
 FoundNow (Done s) steps = Finds (CursorWord Synced) s steps
 FoundNow (Stopped at_open now) steps = Finds (CursorWord StoppedCursor) now steps
 FoundNow OutOfMemory steps = Unit {0}
-FoundNow (Rows n) steps = (last : ℕ) × (suc last ≡ n) × Finds (Current Append) last steps
-    × Finds (CursorWord StoppedCursor) 0 steps
 
--- Seat w was answered this, and made steps of barriers and syncs alone, of which one tells what is
--- answered.
-pub record Answers (w opened : ℕ) (v : View) (answer : SyncAnswer) (after : View) : Type 0 where
+-- Seat w was answered this, and made steps of barriers and syncs alone, of which at most n issued a
+-- barrier, and one tells what is answered.
+pub record Answers (w n opened : ℕ) (v : View) (answer : SyncAnswer) (after : View) : Type 0 where
   pub puts : List Event
-  pub steps : RoundSteps w puts v after
+  pub steps : RoundSteps w n puts v after
   pub is : IsAnswer w opened answer puts after
   pub now : FoundNow answer steps.steps
 
 -- It was, or it was not and put nothing.
-abbrev pub MayAnswer : ℕ → ℕ → View → Option SyncAnswer → View → Type 0
-MayAnswer w opened v (Some answer) after = Answers w opened v answer after
-MayAnswer w opened v None after = RoundSteps w [] v after
+abbrev pub MayAnswer : ℕ → ℕ → ℕ → View → Option SyncAnswer → View → Type 0
+MayAnswer w n opened v (Some answer) after = Answers w n opened v answer after
+MayAnswer w n opened v None after = RoundSteps w 0 [] v after
 
 -- A synced key that was found answers a sync up to another key: Done where it is not below that
 -- one, and else nothing yet.
@@ -131,10 +80,3 @@ IsDoneBy upto found None = found < upto
 abbrev pub IsHaltedBy : ℕ → ℕ → Option SyncAnswer → Type 0
 IsHaltedBy opened now (Some answer) = (answer ≡ Stopped opened now) × HasRisen opened now
 IsHaltedBy opened now None = now ≡ 0
-
--- A log key that was found answers a sync, where no group is left for a further barrier: Rows where
--- an entry was claimed since the last marker, and else nothing yet.
-abbrev pub IsFullBy : ℕ → Option LastMarker → ℕ → Option SyncAnswer → Type 0
-IsFullBy capacity marker key (Some answer) =
-    (answer ≡ Rows group_rows) × (behind_last capacity marker < key)
-IsFullBy capacity marker key None = key ≤ behind_last capacity marker

@@ -1,38 +1,14 @@
 -- What the steps of the holder of the Sync turn tell of it, before and after.
-use Rattle.std.specs.Prelude.{
-  ◌≡◌,
-  ◌≢◌,
-  ◌⊎◌,
-  ℕ,
-  suc,
-  ◌+◌,
-  ◌*◌,
-  ◌^◌,
-  ◌<◌,
-  ◌≤◌,
-  List,
-  ◌∷◌,
-  length,
-  Option,
-  Some,
-  None,
-}
+use Rattle.std.specs.Prelude.{◌≡◌, ◌≢◌, ◌⊎◌, ℕ, suc, ◌+◌, ◌^◌, ◌<◌, ◌≤◌, List, ◌∷◌, length, Option}
+use Rattle.std.specs.Prelude.{Some, None}
 use Rattle.std.specs.List.Sorted.{IsPermutation}
 use Rattle.atomic_table.specs.Table.{Me, Step, rest}
 use Rattle.op_core.specs.declared.count.Order.TheVariants.{Write, Append}
 use Rattle.path_core.specs.declared.event.ClaimKind.TheVariants.{Marker}
 use Rattle.path_core.specs.declared.event.Cursor.TheVariants.{Synced, Stopped as StoppedCursor}
-use Rattle.path_core.specs.declared.event.Event.TheVariants.{
-  Look,
-  Claim,
-  TakeTurn,
-  GiveTurn,
-  MoveCurrent,
-  Expire,
-  Advance,
-  OpenGroup,
-  Put,
-}
+use Rattle.path_core.specs.declared.event.Event.TheVariants.{Look, Claim, TakeTurn, GiveTurn}
+use Rattle.path_core.specs.declared.event.Event.TheVariants.{MoveCurrent, Expire, Advance}
+use Rattle.path_core.specs.declared.event.Event.TheVariants.{OpenGroup, Put}
 use Rattle.path_core.specs.declared.event.Place.TheVariants.{Oldest, Log, TurnWord, CursorWord}
 use Rattle.path_core.specs.declared.event.Turn.TheVariants.{Sync}
 use Rattle.path_core.specs.declared.event.Event.{Event}
@@ -48,14 +24,8 @@ use Rattle.path_rule.specs.declared.view.Progress.{Progress}
 use Rattle.path_rule.specs.declared.view.Role.TheVariants.{Steps}
 use Rattle.path_rule.specs.declared.view.View.{View}
 use Rattle.path_rule.specs.Boxes.{box_of, desk_box, NotesAre, DeskIs}
-use Rattle.path_rule.specs.HandsAfter.{
-  with_desk,
-  with_taken,
-  with_swept,
-  unswept_hands,
-  barred,
-  with_marker,
-}
+use Rattle.path_rule.specs.HandsAfter.{with_desk, with_taken, with_swept, unswept_hands, barred}
+use Rattle.path_rule.specs.HandsAfter.{with_marker}
 use Rattle.path_rule.specs.Lasts.{lasting_of, shown, more_lasting, refused_lasting}
 use Rattle.path_rule.specs.Rule.{Was}
 use Rattle.path_rule.specs.Trails.{GoesOnBehind}
@@ -109,7 +79,7 @@ module _ {K : Type 0} where
 
   -- A barrier is issued: the next group is made, where a switched memtable waits for it.
   abbrev pub WriteOpened : Step (Slot K) → Me (Slot K) View → ℕ → Me (Slot K) View → Type 0
-  WriteOpened st m n m' = (w g : ℕ) → m.0.role ≡ Steps w → g < 65536 → st.word ≡ 72 + 2 * g
+  WriteOpened st m n m' = (w g c : ℕ) → m.0.role ≡ Steps w → TurnSaw Write m.0.part c → g ≡ suc c
       → Made w (OpenGroup w Write g) n m m'
       × ((was : Was m.0 w (OpenGroup w Write g)) × IsAllowed was.core (OpenGroup w Write g))
 
@@ -119,7 +89,7 @@ module _ {K : Type 0} where
       → Made w (MoveCurrent w Write n) c m m'
 
   abbrev pub WriteExpired : Step (Slot K) → Me (Slot K) View → ℕ → Me (Slot K) View → Type 0
-  WriteExpired st m n m' = (w g : ℕ) → m.0.role ≡ Steps w → g < 65536 → st.word ≡ 72 + 2 * g
+  WriteExpired st m n m' = (w g c : ℕ) → m.0.role ≡ Steps w → TurnSaw Write m.0.part c → suc g ≡ c
       → Made w (Expire w Write g) n m m'
 
   abbrev pub WriteAdvanced : Step (Slot K) → Me (Slot K) View → ℕ → Me (Slot K) View → Type 0
@@ -127,7 +97,7 @@ module _ {K : Type 0} where
 
   -- One of the append order, where a marker of the seat waits for it.
   abbrev pub AppendOpened : Step (Slot K) → Me (Slot K) View → ℕ → Me (Slot K) View → Type 0
-  AppendOpened st m n m' = (w g : ℕ) → m.0.role ≡ Steps w → g < 65536 → st.word ≡ 73 + 2 * g
+  AppendOpened st m n m' = (w g c : ℕ) → m.0.role ≡ Steps w → TurnSaw Append m.0.part c → g ≡ suc c
       → Made w (OpenGroup w Append g) n m m'
       × ((was : Was m.0 w (OpenGroup w Append g)) × IsAllowed was.core (OpenGroup w Append g))
 
@@ -138,7 +108,7 @@ module _ {K : Type 0} where
       (barred c m.0.hands.progress) m.0.hands) m.0 m'.0 × (m'.1 ≡ m.1)
 
   abbrev pub AppendExpired : Step (Slot K) → Me (Slot K) View → ℕ → Me (Slot K) View → Type 0
-  AppendExpired st m n m' = (w g : ℕ) → m.0.role ≡ Steps w → g < 65536 → st.word ≡ 73 + 2 * g
+  AppendExpired st m n m' = (w g c : ℕ) → m.0.role ≡ Steps w → TurnSaw Append m.0.part c → suc g ≡ c
       → Made w (Expire w Append g) n m m'
 
   abbrev pub AppendAdvanced : Step (Slot K) → Me (Slot K) View → ℕ → Me (Slot K) View → Type 0

@@ -1,20 +1,18 @@
 -- What the holder of the Sync turn knows: it is exact while it holds it.
-use Rattle.std.specs.Prelude.{◌≡◌, ◌⊎◌, ℕ, ◌<◌, Some, None}
+use Rattle.std.specs.Prelude.{◌≡◌, ◌⊎◌, ℕ, suc, ◌<◌, Some, None}
 use Rattle.op_core.specs.declared.count.Order.{Order}
 use Rattle.op_core.specs.declared.count.Order.TheVariants.{Write, Append}
 use Rattle.path_core.specs.declared.event.Cursor.TheVariants.{OldestLive}
 use Rattle.path_core.specs.declared.event.Place.{Place}
-use Rattle.path_core.specs.declared.event.Place.TheVariants.{
-  Count,
-  Newest,
-  Bound,
-  TurnWord,
-  CursorWord,
-}
+use Rattle.path_core.specs.declared.event.Place.TheVariants.{Count, Newest, Bound, TurnWord}
+use Rattle.path_core.specs.declared.event.Place.TheVariants.{CursorWord}
 use Rattle.path_core.specs.declared.event.Turn.TheVariants.{Flush}
 use Rattle.path_core.specs.declared.seat.FoundGroups.{FoundGroups}
 use Rattle.path_core.specs.declared.seat.Seat.{Seat}
-use Rattle.path_core.specs.declared.seat.Switching.TheVariants.{Settled, WithBarrier}
+use Rattle.path_core.specs.declared.seat.Switching.{Switching}
+use Rattle.path_core.specs.declared.seat.Switching.TheVariants.{Settled, Begun}
+use Rattle.path_core.specs.declared.seat.Switching.TheVariants.{Marked as MarkedStage, Waiting}
+use Rattle.path_core.specs.declared.seat.Switching.TheVariants.{WithBarrier}
 use Rattle.path_core.specs.declared.seat.SyncTurn.{SyncTurn}
 use Rattle.path_core.specs.Parts.{found_of, marker_of, seat_table, stage_of}
 use Rattle.path_rule.specs.declared.view.Hands.{Hands}
@@ -56,9 +54,27 @@ abbrev pub IsSwitchThrough : ℕ → Seat → Type 0
 IsSwitchThrough t p = (stage_of p t ≡ Some Settled)
     ⊎ ((m g : ℕ) × (stage_of p t ≡ Some (WithBarrier m g)) × FoundPast p g)
 
--- The seat knows that the table has this memtable: it is the first, or its write tries it.
+-- The seat's write tries this memtable of the table.
 abbrev pub KnowsMemtable : Seat → ℕ → ℕ → Type 0
-KnowsMemtable p t m = (m ≡ 0) ⊎ ((seat_table p t).trying ≡ Some m)
+KnowsMemtable p t m = (seat_table p t).trying ≡ Some m
+
+-- At a stage of a switch this is the memtable below the newest.
+abbrev pub StagedAt : Switching → ℕ → Type 0
+StagedAt Settled m = ⊥
+StagedAt (Begun n) m = n ≡ suc m
+StagedAt (MarkedStage k) m = k.memtable ≡ m
+StagedAt (Waiting n) m = n ≡ m
+StagedAt (WithBarrier n group) m = n ≡ m
+
+-- The seat's write tries this memtable, or its switch is at it: a word shows its bound.
+abbrev pub KnowsNear : Seat → ℕ → ℕ → Type 0
+KnowsNear p t m = ((seat_table p t).trying ≡ Some m)
+    ⊎ ((k : Switching) × (stage_of p t ≡ Some k) × StagedAt k m)
+
+-- Of a bound the seat's part tells the memtable.
+abbrev pub IsKnown : Seat → Place → Type 0
+IsKnown p (Bound t m) = KnowsMemtable p t.0 m
+IsKnown p at = Unit {0}
 
 -- The seat knows that there is such a place.
 abbrev pub Sighted : View → Place → Type 0

@@ -15,6 +15,4 @@ pub enum SyncAnswer {
     },
     /// The keeper wants memory. All is pending still.
     OutOfMemory,
-    /// All groups of the append order that there are words for were made: this many.
-    Rows(u64),
 }

@@ -41,6 +41,7 @@ ghost use Rattle.path_rule.specs.Filing.{IsFileOf, file_range, put_range};
 ghost use Rattle.path_rule.specs.InBoxes.{BelongsThere, LiesInItsBox};
 ghost use Rattle.path_rule.specs.Lasts.{none_filed, shown, shows_of};
 ghost use Rattle.path_rule.specs.Memtables.{HasInHand, IsHome};
+ghost use Rattle.path_rule.specs.PaidFor.{ArePaidFor};
 ghost use Rattle.path_rule.specs.Rule.{AreBuilt, Ruled};
 ghost use Rattle.path_rule.specs.Seen.{SeesItsInterval};
 ghost use Rattle.path_rule.specs.Stopped.{TakesNothing};
@@ -111,6 +112,14 @@ pub fn a_stopped_log_tells_a_count_that_has_risen<K: Keeper>()
     ensures { (o : Beside) (size : PathSize) (s : State (Slot K) View)
         (r : Ruled (shows_of K.holds) o size s)
         → 0 < r.core.stopped → HasRisen size.at_open r.core.stopped }
+{}
+
+/// No group and no memtable is made that no barrier stands for: the groups beside the first of each
+/// order are as many as the barriers that all seats have issued, together; the memtables beside the
+/// first of each table are at most as many, and one for each seat.
+pub fn groups_and_memtables_are_paid_for<K: Keeper>()
+    ensures { (o : Beside) (size : PathSize) (s : State (Slot K) View)
+        (r : Ruled (shows_of K.holds) o size s) → ArePaidFor size.seats r.events r.core }
 {}
 
 /// A stopped log takes no marker and no group of the append order: in each run of steps that are

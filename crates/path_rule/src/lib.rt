@@ -26,11 +26,11 @@ pub use lasting::{Beside, Filed, Lasting, PutTable};
 pub use laws::{
     a_stopped_log_takes_nothing, a_stopped_log_tells_a_count_that_has_risen,
     each_box_has_one_holder, each_memtable_box_has_one_holder, each_table_file_holds_its_interval,
-    gathering_reaches_the_last_marker, the_keeper_at_home_shows_what_is_lasting,
-    the_table_shows_a_lawful_state, what_lies_in_memtables_was_placed,
-    what_was_archived_is_droppable, what_was_dropped_is_droppable,
-    what_was_placed_lies_in_memtables, what_was_seen_is_the_memtables_interval,
-    without_files_nothing_goes,
+    gathering_reaches_the_last_marker, groups_and_memtables_are_paid_for,
+    the_keeper_at_home_shows_what_is_lasting, the_table_shows_a_lawful_state,
+    what_lies_in_memtables_was_placed, what_was_archived_is_droppable,
+    what_was_dropped_is_droppable, what_was_placed_lies_in_memtables,
+    what_was_seen_is_the_memtables_interval, without_files_nothing_goes,
 };
 pub use plays::{
     ClaimAt, Deal, DepositIn, FinishIn, GiveMemtable, JoinIn, LookAt, Merge, RegisterIn, StopIn,
@@ -39,7 +39,7 @@ pub use plays::{
 pub use rule::PathRule;
 pub use slot::{Desk, Slot};
 pub use table_plays::{
-    FinaliseMemtable, GiveFlush, MarkMemtable, OpenMemtable, RaiseBound, TakeFlush,
+    ClearPlace, FinaliseMemtable, GiveFlush, MarkMemtable, OpenMemtable, RaiseBound, TakeFlush,
 };
 pub use trail_laws::what_a_trail_finds_of_memtables;
 pub use turn_plays::{

@@ -37,6 +37,17 @@ impl<K> Play<Slot<K>, View> for RaiseBound<K> {
     ghost then = { BoundRaised };
 }
 
+/// The place of the next memtable of a table is cleared.
+pub struct ClearPlace<K> {
+    keeper: PhantomData<K>,
+}
+
+impl<K> Play<Slot<K>, View> for ClearPlace<K> {
+    ghost use Rattle.path_rule.specs.TableTold.{PlaceCleared};
+
+    ghost then = { PlaceCleared };
+}
+
 /// The next memtable of a table is made.
 pub struct OpenMemtable<K> {
     keeper: PhantomData<K>,

@@ -1,17 +1,5 @@
 -- Up to which key the memtables of tables were switched, as a closed table tells it.
-use Rattle.std.specs.Prelude.{
-  ◌≡◌,
-  ℕ,
-  zero,
-  suc,
-  ◌+◌,
-  ◌*◌,
-  ◌%◌,
-  ◌^◌,
-  ◌<◌,
-  List,
-  slice_index,
-}
+use Rattle.std.specs.Prelude.{◌≡◌, ℕ, zero, suc, ◌+◌, ◌*◌, ◌%◌, ◌^◌, ◌<◌, List, slice_index}
 use Rattle.path_core.specs.declared.state.Bound.TheVariants.{Final, Live}
 use Rattle.path_core.specs.declared.state.PathState.{PathState}
 use Rattle.path_core.specs.History.{bound_before}
@@ -21,7 +9,7 @@ use Rattle.path_table.specs.declared.bounds.TableBounds.{TableBounds}
 -- the key of the bound below a memtable of a table, as its word has it; 0 below the first
 abbrev pub key_below : List ℕ → ℕ → ℕ → ℕ
 key_below words t zero = 0
-key_below words t (suc m) = slice_index words (131144 + 16 * m + t) % 2 ^ 62
+key_below words t (suc m) = slice_index words (136 + 16 * (m % 4) + t) % 2 ^ 62
 
 -- below the table's newest one
 abbrev pub last_key : List ℕ → ℕ → ℕ

@@ -50,7 +50,7 @@ impl<K: Keeper, A: Allocator> PathTable<K, A> {
         ensures same { KeepsBoxes member.old member.new }
         ensures step { Stepped member.old (Look member.old.number (CursorWord (OldestLive table)))
             result member.new }
-        ensures below { result < 256 }
+        ensures below { result < 2 ^ 47 }
         ensures tries { IsTrue (has_note_of (part_of member.old) table.0)
             → (seat_table (part_of member.old) table.0).trying ≡ None
             → (seat_table (part_of member.new) table.0).trying ≡ Some result }
@@ -69,7 +69,7 @@ impl<K: Keeper, A: Allocator> PathTable<K, A> {
     pub fn look_bound(&self, member: &mut Member<K>, table: Table, memtable: u64) -> BoundOf
         requires table { IsOf self.now.table.shared.table_id self.now.size member.old }
         requires there { table.0 < self.now.size.tables }
-        requires known { (memtable < 256)
+        requires known { (memtable < 2 ^ 47)
             × KnowsMemtable (part_of member.old) table.0 memtable }
         ensures same { KeepsBoxes member.old member.new }
         ensures step { Stepped member.old (Look member.old.number (Bound table memtable))
@@ -86,7 +86,7 @@ impl<K: Keeper, A: Allocator> PathTable<K, A> {
     {
         let word = self.table.shared.load::<LookAt<K>>(
             &mut member.seat,
-            BOUNDS + 16 * memtable as usize + table.0 as usize,
+            BOUNDS + 16 * (memtable % 4) as usize + table.0 as usize,
         );
         bound_of(word)
     }
@@ -102,7 +102,7 @@ impl<K: Keeper, A: Allocator> PathTable<K, A> {
         end: Key,
     ) -> BoundOf
         requires table { IsOf self.now.table.shared.table_id self.now.size member.old }
-        requires there { (table.0 < self.now.size.tables) × (memtable < 256)
+        requires there { (table.0 < self.now.size.tables) × (memtable < 2 ^ 47)
             × (end.0 < 2 ^ 62) }
         requires writer { RaisesAsWriter (part_of member.old) table.0 memtable end.0 }
         requires found { (b : BoundKind) × ((seat_table (part_of member.old) table.0).bound
@@ -117,7 +117,7 @@ impl<K: Keeper, A: Allocator> PathTable<K, A> {
     {
         let word = self.table.shared.fetch_max::<RaiseBound<K>>(
             &mut member.seat,
-            BOUNDS + 16 * memtable as usize + table.0 as usize,
+            BOUNDS + 16 * (memtable % 4) as usize + table.0 as usize,
             end.0 + RAISING,
         );
         bound_of(word)
@@ -127,7 +127,7 @@ impl<K: Keeper, A: Allocator> PathTable<K, A> {
     /// box there (`OpOrder.Group.close`). Returns the count that it found.
     pub fn leave_placed(&self, member: &mut Member<K>, group: u64) -> u64
         requires table { IsOf self.now.table.shared.table_id self.now.size member.old }
-        requires group { (group < 65536) × ((part_of member.old).write ≡ Some group) }
+        requires group { (group < 2 ^ 47) × ((part_of member.old).write ≡ Some group) }
         requires deposited { (part_of member.old).append ≡ None }
         requires placed { IsPlaced (part_of member.old) }
         requires applied { AreApplied (part_of member.old) (hands_of member.old) }
@@ -137,8 +137,10 @@ impl<K: Keeper, A: Allocator> PathTable<K, A> {
             (Applied (places_of (part_of member.old)))) result member.new }
         ensures places { IsItsPlaces (part_of member.old) (places_of (part_of member.old)) }
     {
-        self.table
-            .shared
-            .fetch_sub::<FinishIn<K>>(&mut member.seat, WRITE_COUNTS + 2 * group as usize, 1)
+        self.table.shared.fetch_sub::<FinishIn<K>>(
+            &mut member.seat,
+            WRITE_COUNTS + 2 * (group % 32) as usize,
+            1,
+        )
     }
 }

@@ -1,40 +1,24 @@
 //! The steps of a barrier of the append order, which the last marker waits for. The next group is
 //! made and becomes the current one, the one before expires, and the oldest group moves over those
 //! whose counts are finished.
-ghost use Rattle.std.specs.Prelude.{◌≡◌, ℕ, suc, ◌<◌, ◌≤◌, true};
+ghost use Rattle.std.specs.Prelude.{◌*◌, ◌^◌, ◌≡◌, ℕ, suc, ◌+◌, ◌<◌, ◌≤◌, true};
 ghost use Rattle.op_core.specs.declared.count.Order.TheVariants.{Append};
-ghost use Rattle.path_core.specs.declared.event.Event.TheVariants.{
-  OpenGroup,
-  MoveCurrent,
-  Expire,
-  Advance,
-};
+ghost use Rattle.path_core.specs.declared.event.Event.TheVariants.{OpenGroup, MoveCurrent, Expire};
+ghost use Rattle.path_core.specs.declared.event.Event.TheVariants.{Advance};
 ghost use Rattle.path_core.specs.declared.seat.Issue.TheVariants.{Rest, Opened, Moved};
 ghost use Rattle.path_core.specs.Allowed.{IsAllowed};
 ghost use Rattle.path_core.specs.Parts.{marker_of, stage_of};
 ghost use Rattle.path_rule.specs.Calls.{Holds};
 ghost use Rattle.path_rule.specs.HandsAfter.{issued_hands};
+ghost use Rattle.path_rule.specs.Issued.{issued_in, most_issued};
 ghost use Rattle.path_rule.specs.Rule.{Was};
-ghost use Rattle.path_rule.specs.Turns.{
-  FoundRunning,
-  MarkerWaits,
-  TurnSaw,
-  TurnOld,
-  TurnGone,
-  KeepsCurrent,
-};
-ghost use Rattle.path_table.specs.Members.{
-  view_of,
-  part_of,
-  hands_of,
-  IsOf,
-  KeepsSizes,
-  Stepped,
-  SteppedAs,
-};
+ghost use Rattle.path_rule.specs.Turns.{FoundRunning, MarkerWaits, TurnSaw, TurnOld, TurnGone};
+ghost use Rattle.path_rule.specs.Turns.{KeepsCurrent};
+ghost use Rattle.path_table.specs.Members.{view_of, part_of, hands_of, IsOf, KeepsSizes, Stepped};
+ghost use Rattle.path_table.specs.Members.{SteppedAs};
 
 use crate::table::{Member, PathTable};
-use crate::words::{APPEND_COUNTS, CURRENT_APPEND, EXPIRED, OLDEST_APPEND};
+use crate::words::{APPEND_COUNTS, CURRENT_APPEND, EXPIRED, OLDEST_APPEND, ONE_GROUP};
 use path_core::Keeper;
 use path_rule::{AdvanceAppend, ExpireAppend, MoveAppend, OpenAppend};
 use std::alloc::Allocator;
@@ -46,11 +30,15 @@ impl<K: Keeper, A: Allocator> PathTable<K, A> {
         requires table { IsOf self.now.table.shared.table_id self.now.size member.old }
         requires turn { Holds Rest (view_of member.old)
             × TurnSaw Append (part_of member.old) current × (group ≡ suc current)
-            × (group < 65536) }
+            × (issued_in (view_of member.old).trail < most_issued) }
+        requires small { current < 2 ^ 47 }
         requires marker { (start : ℕ) × MarkerWaits member.old.number (part_of member.old) start }
         requires runs { FoundRunning (part_of member.old) }
+        requires free { (oldest : ℕ) × TurnOld Append (part_of member.old) oldest
+            × (group ≤ oldest + 31) }
         ensures same { KeepsSizes member.old member.new }
-        ensures step { Stepped member.old (OpenGroup member.old.number Append group) 0 member.new }
+        ensures step { Stepped member.old (OpenGroup member.old.number Append group) (65536 * group)
+            member.new }
         ensures allowed { (was : Was (view_of member.old) member.old.number
             (OpenGroup member.old.number Append group))
             × IsAllowed was.core (OpenGroup member.old.number Append group) }
@@ -59,9 +47,12 @@ impl<K: Keeper, A: Allocator> PathTable<K, A> {
         ensures marker { marker_of (part_of member.new) ≡ marker_of (part_of member.old) }
         ensures hands { hands_of member.new ≡ hands_of member.old }
     {
-        self.table
-            .shared
-            .store::<OpenAppend<K>>(&mut member.seat, APPEND_COUNTS + 2 * group as usize, 0);
+        self.table.shared.store::<OpenAppend<K>>(
+            &mut member.seat,
+            APPEND_COUNTS + 2 * (group % 32) as usize,
+            ONE_GROUP * group,
+        );
+        member.issued += 1;
     }
 
     /// Makes that group the current one: the one before it is the barrier of the marker. The boxes
@@ -90,7 +81,7 @@ impl<K: Keeper, A: Allocator> PathTable<K, A> {
         requires table { IsOf self.now.table.shared.table_id self.now.size member.old }
         requires turn { Holds (Moved Append) (view_of member.old)
             × TurnSaw Append (part_of member.old) current × (suc group ≡ current)
-            × (group < 65536) }
+            × (group < 2 ^ 47) }
         ensures same { KeepsSizes member.old member.new }
         ensures step { Stepped member.old (Expire member.old.number Append group) result
             member.new }
@@ -100,7 +91,7 @@ impl<K: Keeper, A: Allocator> PathTable<K, A> {
     {
         self.table.shared.fetch_add::<ExpireAppend<K>>(
             &mut member.seat,
-            APPEND_COUNTS + 2 * group as usize,
+            APPEND_COUNTS + 2 * (group % 32) as usize,
             EXPIRED,
         )
     }
@@ -118,6 +109,8 @@ impl<K: Keeper, A: Allocator> PathTable<K, A> {
             member.new }
         ensures turn { Holds Rest (view_of member.new)
             × KeepsCurrent Append (part_of member.old) (part_of member.new) }
+        ensures marker { marker_of (part_of member.new) ≡ marker_of (part_of member.old) }
+        ensures runs { FoundRunning (part_of member.old) → FoundRunning (part_of member.new) }
         ensures hands { hands_of member.new ≡ hands_of member.old }
         ensures stages { (t : ℕ) → stage_of (part_of member.new) t
             ≡ stage_of (part_of member.old) t }

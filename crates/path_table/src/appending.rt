@@ -1,19 +1,7 @@
 //! The steps of a writer on the append order, with the box that it has while it is in a group.
-ghost use Rattle.std.specs.Prelude.{
-  ◌≡◌,
-  ℕ,
-  ◌≢◌,
-  ◌+◌,
-  ◌<◌,
-  ◌^◌,
-  List,
-  ◌∷◌,
-  ◌++◌,
-  Some,
-  None,
-  IsSome,
-  length,
-};
+ghost use Rattle.op_core.specs.CountWords.{number_in};
+ghost use Rattle.std.specs.Prelude.{◌≡◌, ℕ, ◌≢◌, ◌+◌, ◌<◌, ◌^◌, List, ◌∷◌, ◌++◌, Some, None};
+ghost use Rattle.std.specs.Prelude.{IsSome, length};
 ghost use Rattle.std.specs.List.{Contains};
 ghost use Rattle.atomic_table.specs.Table.{rest};
 ghost use Rattle.op_core.specs.declared.count.Order.TheVariants.{Append};
@@ -29,19 +17,8 @@ ghost use Rattle.path_rule.specs.Boxes.{box_of};
 ghost use Rattle.path_rule.specs.HandsAfter.{with_notes};
 ghost use Rattle.path_rule.specs.Told.{Took, CarriesNotes};
 ghost use Rattle.path_rule.specs.Turns.{Sighted};
-ghost use Rattle.path_table.specs.Members.{
-  view_of,
-  part_of,
-  hands_of,
-  boxes_of,
-  IsOf,
-  IsSame,
-  KeepsBoxes,
-  PutsBack,
-  Stepped,
-  SteppedAs,
-  HasDeposit,
-};
+ghost use Rattle.path_table.specs.Members.{view_of, part_of, hands_of, boxes_of, IsOf, IsSame};
+ghost use Rattle.path_table.specs.Members.{KeepsBoxes, PutsBack, Stepped, SteppedAs, HasDeposit};
 
 use crate::table::{Member, PathTable};
 use crate::words::{APPEND_COUNTS, CURRENT_APPEND};
@@ -57,33 +34,37 @@ impl<K: Keeper, A: Allocator> PathTable<K, A> {
         ensures same { KeepsBoxes member.old member.new }
         ensures step { Stepped member.old (Look member.old.number (Current Append)) result
             member.new }
-        ensures below { result < 65536 }
+        ensures below { result < 2 ^ 47 }
     {
         self.table
             .shared
             .load::<LookAt<K>>(&mut member.seat, CURRENT_APPEND)
     }
 
-    /// The count of a group of the append order, which the member knows that it was made.
+    /// The word of a group of the append order, which tells the number and the count of the last
+    /// group that took it. The member knows that the group was made.
     pub fn look_appenders(&self, member: &mut Member<K>, group: u64) -> u64
         requires table { IsOf self.now.table.shared.table_id self.now.size member.old }
-        requires group { (group < 65536) × Sighted (view_of member.old) (Count Append group) }
+        requires group { (group < 2 ^ 47) × Sighted (view_of member.old) (Count Append group) }
         ensures same { KeepsBoxes member.old member.new }
-        ensures step { Stepped member.old (Look member.old.number (Count Append group)) result
+        ensures step { Stepped member.old (Look member.old.number (Count Append (number_in result)))
+            result
             member.new }
     {
-        self.table
-            .shared
-            .load::<LookAt<K>>(&mut member.seat, APPEND_COUNTS + 2 * group as usize)
+        self.table.shared.load::<LookAt<K>>(
+            &mut member.seat,
+            APPEND_COUNTS + 2 * (group % 32) as usize,
+        )
     }
 
-    /// Joins the group that the member last found current, if its count is still the one that was
-    /// looked at, and takes the member's box for groups of that parity. Returns the count that it
+    /// Joins the group that the member last found current, if its word is still the one that was
+    /// looked at, and takes the member's box for groups of that parity. Returns the word that it
     /// found: where that is another, this was a look.
     pub fn join(&self, member: &mut Member<K>, group: u64, looked: u64) -> u64
         requires table { IsOf self.now.table.shared.table_id self.now.size member.old }
-        requires group { (group < 65536)
-            × ((found_of Append (part_of member.old)).current ≡ Some group) × (looked < 2 ^ 63) }
+        requires group { (group < 2 ^ 47)
+            × ((found_of Append (part_of member.old)).current ≡ Some group)
+            × (number_in looked ≡ group) × (looked < 2 ^ 63) }
         requires ready { IsSome (part_of member.old).write × ((part_of member.old).append ≡ None)
             × ((part_of member.old).claim ≡ None) × HoldsNoTurn (part_of member.old) }
         ensures same { IsSame member.old member.new }
@@ -93,12 +74,13 @@ impl<K: Keeper, A: Allocator> PathTable<K, A> {
             (with_notes notes (hands_of member.old)) member.new)
             × Took (box_of member.old.number group) member.old.seat.me member.new.seat.me }
         ensures miss { result ≢ looked
-            → Stepped member.old (Look member.old.number (Count Append group)) result member.new
+            → Stepped member.old (Look member.old.number (Count Append (number_in result))) result
+            member.new
             × (boxes_of member.new ≡ boxes_of member.old) }
     {
         self.table.shared.compare_exchange::<JoinIn<K>>(
             &mut member.seat,
-            APPEND_COUNTS + 2 * group as usize,
+            APPEND_COUNTS + 2 * (group % 32) as usize,
             looked,
             looked + 1,
         )
@@ -107,7 +89,7 @@ impl<K: Keeper, A: Allocator> PathTable<K, A> {
     /// Leaves the append order, before a claim. The box goes home as it was taken.
     pub fn withdraw(&self, member: &mut Member<K>, group: u64) -> u64
         requires table { IsOf self.now.table.shared.table_id self.now.size member.old }
-        requires group { (group < 65536) × ((part_of member.old).append ≡ Some group)
+        requires group { (group < 2 ^ 47) × ((part_of member.old).append ≡ Some group)
             × ((part_of member.old).claim ≡ None) }
         requires box_kept { CarriesNotes (box_of member.old.number group)
             (hands_of member.old).notes member.old.seat.me }
@@ -115,9 +97,11 @@ impl<K: Keeper, A: Allocator> PathTable<K, A> {
         ensures step { Stepped member.old (Close member.old.number Append group Nothing) result
             member.new }
     {
-        self.table
-            .shared
-            .fetch_sub::<WithdrawFrom<K>>(&mut member.seat, APPEND_COUNTS + 2 * group as usize, 1)
+        self.table.shared.fetch_sub::<WithdrawFrom<K>>(
+            &mut member.seat,
+            APPEND_COUNTS + 2 * (group % 32) as usize,
+            1,
+        )
     }
 
     /// Puts notes into the member's box, behind those that it holds. It takes no memory.
@@ -137,6 +121,7 @@ impl<K: Keeper, A: Allocator> PathTable<K, A> {
         let Member {
             mut seat,
             number: by,
+            issued,
         } = member;
         let shared = &self.table.shared;
         let done = match seat.slot_mut(shared, number) {
@@ -146,14 +131,18 @@ impl<K: Keeper, A: Allocator> PathTable<K, A> {
         if done.is_err() {
             unreachable!()
         }
-        Member { seat, number: by }
+        Member {
+            seat,
+            number: by,
+            issued,
+        }
     }
 
     /// Leaves the append order with the note of the claimed entry, which lies in the box behind
     /// what was there (`Allocation.markWritten`). The box goes home.
     pub fn deposit(&self, member: &mut Member<K>, group: u64) -> u64
         requires table { IsOf self.now.table.shared.table_id self.now.size member.old }
-        requires group { (group < 65536) × ((part_of member.old).append ≡ Some group) }
+        requires group { (group < 2 ^ 47) × ((part_of member.old).append ≡ Some group) }
         requires note { (note : EntryNote)
             × ((part_of member.old).claim
             ≡ Some (record { start = note.start.0; end = note.end.0 }))
@@ -170,8 +159,10 @@ impl<K: Keeper, A: Allocator> PathTable<K, A> {
             → (a : Placed) → Contains (hands_of member.new).applied a
             → a.entry ≢ note.end.0 }
     {
-        self.table
-            .shared
-            .fetch_sub::<DepositIn<K>>(&mut member.seat, APPEND_COUNTS + 2 * group as usize, 1)
+        self.table.shared.fetch_sub::<DepositIn<K>>(
+            &mut member.seat,
+            APPEND_COUNTS + 2 * (group % 32) as usize,
+            1,
+        )
     }
 }

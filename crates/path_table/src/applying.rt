@@ -12,18 +12,8 @@ ghost use Rattle.path_rule.specs.Applying.{put_there, MayApply, PutsNote, TookHe
 ghost use Rattle.path_rule.specs.Boxes.{memtable_box};
 ghost use Rattle.path_rule.specs.HandsAfter.{with_applied, with_held};
 ghost use Rattle.path_rule.specs.Told.{CarriesNotes};
-ghost use Rattle.path_table.specs.Members.{
-  view_of,
-  part_of,
-  hands_of,
-  boxes_of,
-  HoldsNote,
-  IsOf,
-  IsSame,
-  KeepsBoxes,
-  PutsBack,
-  SteppedAs,
-};
+ghost use Rattle.path_table.specs.Members.{view_of, part_of, hands_of, boxes_of, HoldsNote, IsOf};
+ghost use Rattle.path_table.specs.Members.{IsSame, KeepsBoxes, PutsBack, SteppedAs};
 
 use crate::table::{Member, PathTable};
 use crate::words::NEWEST;
@@ -71,6 +61,7 @@ impl<K: Keeper, A: Allocator> PathTable<K, A> {
         let Member {
             mut seat,
             number: by,
+            issued,
         } = member;
         let shared = &self.table.shared;
         let done = match seat.slot_mut(shared, number) {
@@ -80,7 +71,11 @@ impl<K: Keeper, A: Allocator> PathTable<K, A> {
         if done.is_err() {
             unreachable!()
         }
-        Member { seat, number: by }
+        Member {
+            seat,
+            number: by,
+            issued,
+        }
     }
 
     // Gives the box back with the note of the member's write in it, behind what was there.

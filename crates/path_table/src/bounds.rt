@@ -1,5 +1,5 @@
 //! Up to which key the memtables of each table were switched, as a closed table tells it.
-ghost use Rattle.std.specs.Prelude.{◌≡◌, ◌+◌, ◌*◌, ◌<◌, ◌≤◌, ℕ, slice_index};
+ghost use Rattle.std.specs.Prelude.{◌^◌, ◌≡◌, ◌+◌, ◌*◌, ◌<◌, ◌≤◌, ℕ, slice_index};
 ghost use Rattle.std.specs.Slots.{slots_items, slots_len, IsFull};
 ghost use Rattle.path_table.specs.ClosedBounds.{last_key};
 
@@ -31,25 +31,25 @@ impl TableBounds {
 // That of one table, as its words tell it.
 fn last_bound<K>(closed: &Closed<Slot<K>, Global>, table: usize) -> u64
     requires full { IsFull closed.now.words }
-    requires wide { 135240 ≤ slots_len closed.now.words }
+    requires wide { 200 ≤ slots_len closed.now.words }
     requires table { table < 16 }
-    requires few { slice_index (slots_items closed.now.words) (8 + 4 * table) ≤ 256 }
+    requires few { slice_index (slots_items closed.now.words) (8 + 4 * table) ≤ 2 ^ 47 }
     ensures { result ≡ last_key (slots_items closed.now.words) table }
 {
     let newest = closed.word(NEWEST + 4 * table);
     if newest == 0 {
         return 0;
     }
-    let word = closed.word(BOUNDS + 16 * (newest as usize - 1) + table);
+    let word = closed.word(BOUNDS + 16 * ((newest - 1) % 4) as usize + table);
     word % RAISING
 }
 
 // Those of all tables.
 pub(crate) fn last_bounds<K>(closed: &Closed<Slot<K>, Global>) -> TableBounds
     requires full { IsFull closed.now.words }
-    requires wide { 135240 ≤ slots_len closed.now.words }
+    requires wide { 200 ≤ slots_len closed.now.words }
     requires few { (t : ℕ) → t < 16
-        → slice_index (slots_items closed.now.words) (8 + 4 * t) ≤ 256 }
+        → slice_index (slots_items closed.now.words) (8 + 4 * t) ≤ 2 ^ 47 }
     ensures { (t : ℕ) → t < 16
         → slice_index result.keys t ≡ last_key (slots_items closed.now.words) t }
 {

@@ -1,17 +1,6 @@
 //! Seats are taken in by one of them, and that one closes the table.
-ghost use Rattle.std.specs.Prelude.{
-  ◌≡◌,
-  ℕ,
-  ◌+◌,
-  ◌*◌,
-  ◌<◌,
-  ◌≤◌,
-  None,
-  [],
-  ◌∷◌,
-  ◌++◌,
-  slice_index,
-};
+ghost use Rattle.std.specs.Prelude.{◌^◌, ◌≡◌, ℕ, ◌+◌, ◌*◌, ◌<◌, ◌≤◌, None, [], ◌∷◌, ◌++◌};
+ghost use Rattle.std.specs.Prelude.{slice_index};
 ghost use Rattle.std.specs.Slots.{slots_items, slots_len, IsFull};
 ghost use mathlib.Core.Option.{some};
 ghost use lib.ListN.{get_elem?};
@@ -20,12 +9,7 @@ ghost use Rattle.path_rule.specs.FirstBoxes.{HasInFront};
 ghost use Rattle.path_rule.specs.Lasts.{beside_of};
 ghost use Rattle.path_rule.specs.Sharing.{Ended, HasAll};
 ghost use Rattle.path_table.specs.ClosedBounds.{TellsBounds, last_key};
-ghost use Rattle.path_table.specs.Members.{
-  view_of,
-  part_of,
-  boxes_of,
-  returned_of,
-};
+ghost use Rattle.path_table.specs.Members.{view_of, part_of, boxes_of, returned_of};
 
 use crate::bounds::{TableBounds, last_bounds};
 use crate::table::{Member, PathTable};
@@ -57,7 +41,11 @@ impl<K: Keeper, A: Allocator> PathTable<K, A> {
         ensures returned { (view_of first.new).returned
             ≡ (view_of first.old).returned ++ returned_of other ∷ [] }
     {
-        let Member { seat, number: _ } = other;
+        let Member {
+            seat,
+            number: _,
+            issued: _,
+        } = other;
         self.table.shared.join_seat::<Merge>(&mut first.seat, seat);
     }
 }
@@ -77,8 +65,8 @@ pub(crate) fn keeper_and_log<K: Keeper + Drop>(
     notes: &mut LinkedList<EntryNote>,
 ) -> (K, u64, TableBounds)
     requires full { IsFull closed.words × IsFull closed.slots }
-    requires words { 135240 ≤ slots_len closed.words }
-    requires few { (t : ℕ) → t < 16 → slice_index (slots_items closed.words) (8 + 4 * t) ≤ 256 }
+    requires words { 200 ≤ slots_len closed.words }
+    requires few { (t : ℕ) → t < 16 → slice_index (slots_items closed.words) (8 + 4 * t) ≤ 2 ^ 47 }
     requires boxes { 0 < slots_len closed.slots }
     requires desk { (keeper : K) × HasInFront keeper (slots_items closed.slots) }
     ensures keeper { (keeper : K) → HasInFront keeper (slots_items closed.slots)
@@ -134,7 +122,11 @@ impl<K: Keeper + Drop> PathTable<K, Global> {
             × TellsBounds ended.core result.2 }
     {
         let PathTable { table, size: _ } = self;
-        let Member { seat, number: _ } = member;
+        let Member {
+            seat,
+            number: _,
+            issued: _,
+        } = member;
         let mut notes = LinkedList::new(alloc);
         let ended = keeper_and_log(table.close_with(seat), &mut notes);
         drop_in_background(rt, notes.len(), notes);

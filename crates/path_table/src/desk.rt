@@ -22,13 +22,24 @@ impl<K: Keeper, A: Allocator> PathTable<K, A> {
             × (boxes_of result.0 ≡ boxes_of member) }
         ensures found { result.1 ≡ (hands_of member).progress }
     {
-        let Member { mut seat, number } = member;
+        let Member {
+            mut seat,
+            number,
+            issued,
+        } = member;
         let shared = &self.table.shared;
         let progress = match seat.slot_mut(shared, 0) {
             Slot::Turn(desk) => desk.progress,
             Slot::Notes(_) => unreachable!(),
         };
-        (Member { seat, number }, progress)
+        (
+            Member {
+                seat,
+                number,
+                issued,
+            },
+            progress,
+        )
     }
 
     /// Notes on the desk how far the last barrier has got.
@@ -40,12 +51,20 @@ impl<K: Keeper, A: Allocator> PathTable<K, A> {
         ensures desk { HasDesk (shows_of K.holds) (hands_of member).lasting
             (hands_of member).pending progress (boxes_of result) }
     {
-        let Member { mut seat, number } = member;
+        let Member {
+            mut seat,
+            number,
+            issued,
+        } = member;
         let shared = &self.table.shared;
         match seat.slot_mut(shared, 0) {
             Slot::Turn(desk) => desk.progress = progress,
             Slot::Notes(_) => unreachable!(),
         }
-        Member { seat, number }
+        Member {
+            seat,
+            number,
+            issued,
+        }
     }
 }

@@ -2,24 +2,8 @@
 //! read whole: the keeper on the desk puts a table file of what was seen, the memtable is retired,
 //! and the segments that files hold go. What the keeper does is no step; the desk is told of it at
 //! the step behind.
-ghost use Rattle.std.specs.Prelude.{
-  ◌≡◌,
-  ◌≢◌,
-  ◌+◌,
-  ◌^◌,
-  ◌<◌,
-  ◌≤◌,
-  ℕ,
-  true,
-  List,
-  [],
-  length,
-  Some,
-  None,
-  IfOk,
-  OnErr,
-  OnOk,
-};
+ghost use Rattle.std.specs.Prelude.{◌≡◌, ◌≢◌, ◌+◌, ◌^◌, ◌<◌, ◌≤◌, ℕ, true, List, [], length, Some};
+ghost use Rattle.std.specs.Prelude.{None, IfOk, OnErr, OnOk};
 ghost use Rattle.atomic_table.specs.Table.{rest};
 ghost use Rattle.clog_base.specs.declared.cell.Cell.{Cell};
 ghost use Rattle.clog_base.specs.declared.cell.CellKey.{CellKey};
@@ -36,18 +20,10 @@ ghost use Rattle.path_rule.specs.declared.lasting.PutTable.{PutTable};
 ghost use Rattle.path_rule.specs.declared.view.FlushRead.{FlushRead};
 ghost use Rattle.path_rule.specs.Calls.{Holds, IsSyncedTo};
 ghost use Rattle.path_rule.specs.Filing.{MayPut, upper_of};
-ghost use Rattle.path_rule.specs.FilingTold.{
-  AreSeen,
-  CarriesDropped,
-  CarriesFiled,
-  CarriesNoted,
-  CarriesUndropped,
-  FoundFinal,
-  HasDropped,
-  SeesAll,
-  TurnSynced,
-  next_file,
-};
+ghost use Rattle.path_rule.specs.FilingTold.{AreSeen, CarriesDropped, CarriesFiled, CarriesNoted};
+ghost use Rattle.path_rule.specs.FilingTold.{CarriesUndropped, FoundFinal, HasDropped, SeesAll};
+ghost use Rattle.path_rule.specs.FilingTold.{TurnSynced, next_file};
+ghost use Rattle.path_rule.specs.Finds.{Finds};
 ghost use Rattle.path_rule.specs.HandsAfter.{with_desk, with_reading};
 ghost use Rattle.path_rule.specs.Lasts.{shows_of};
 ghost use Rattle.path_rule.specs.Retires.{RetiresFiledIn};
@@ -55,18 +31,8 @@ ghost use Rattle.path_rule.specs.Rule.{Was};
 ghost use Rattle.path_rule.specs.SyncEnd.{stopped_by, TellsFaults};
 ghost use Rattle.path_rule.specs.TurnTold.{CarriesAs, CarriesDesk};
 ghost use Rattle.path_rule.specs.Turns.{FoundRunning};
-ghost use Rattle.path_table.specs.Members.{
-  view_of,
-  part_of,
-  hands_of,
-  boxes_of,
-  IsOf,
-  IsSame,
-  KeepsBoxes,
-  Stepped,
-  SteppedFiled,
-  SteppedNoted,
-};
+ghost use Rattle.path_table.specs.Members.{view_of, part_of, hands_of, boxes_of, IsOf, IsSame};
+ghost use Rattle.path_table.specs.Members.{KeepsBoxes, Stepped, SteppedFiled, SteppedNoted};
 
 use crate::publishing::{discard_on, publish_on};
 use crate::table::{Member, PathTable};
@@ -87,19 +53,31 @@ impl<K: Keeper, A: Allocator> PathTable<K, A> {
             × (boxes_of result.0 ≡ boxes_of member) }
         ensures upper { result.1.0 ≡ upper_of table.0 (hands_of member).lasting.filed.files }
     {
-        let Member { mut seat, number } = member;
+        let Member {
+            mut seat,
+            number,
+            issued,
+        } = member;
         let shared = &self.table.shared;
         let upper = match seat.slot_mut(shared, 0) {
             Slot::Turn(desk) => desk.uppers[table.0 as usize],
             Slot::Notes(_) => unreachable!(),
         };
-        (Member { seat, number }, Key(upper))
+        (
+            Member {
+                seat,
+                number,
+                issued,
+            },
+            Key(upper),
+        )
     }
 
     /// The synced key, once the boxes of all seats of a memtable that is not empty were seen, whose
-    /// final bound the member found. Where the log is lasting up to that bound, a file of the
-    /// newest cells in what was seen may be put: it goes on where the table's last file ended, up
-    /// to the bound.
+    /// final bound the member found. The log goes on behind it at or above where it does behind
+    /// each synced key that the member had found. Where it is lasting up to that bound, a file of
+    /// the newest cells in what was seen may be put: it goes on where the table's last file ended,
+    /// up to the bound.
     pub fn look_filed(&self, member: &mut Member<K>, table: Table, memtable: u64, bound: Key) -> u64
         requires table { IsOf self.now.table.shared.table_id self.now.size member.old }
         requires there { table.0 < self.now.size.tables }
@@ -113,6 +91,8 @@ impl<K: Keeper, A: Allocator> PathTable<K, A> {
             member.new }
         ensures found { TurnSynced (part_of member.new) result }
         ensures small { result < 2 ^ 62 }
+        ensures rises { (key : ℕ) → Finds (CursorWord Synced) key (view_of member.old).trail
+            → after self.now.size.capacity key ≤ after self.now.size.capacity result }
         ensures put { (q : FlushRead) (cells : List (CellKey × Cell))
             → (hands_of member.old).reading ≡ Some q
             → bound.0 ≤ after self.now.size.capacity result → AreSeen q table.0 cells
@@ -158,13 +138,24 @@ impl<K: Keeper, A: Allocator> PathTable<K, A> {
             (stopped_by (hands_of member).lasting.stopped result.1) result.0.seat.me) }
         ensures counts { TellsFaults (hands_of member).lasting.at_open result.1 }
     {
-        let Member { mut seat, number } = member;
+        let Member {
+            mut seat,
+            number,
+            issued,
+        } = member;
         let shared = &self.table.shared;
         let done = match seat.slot_mut(shared, 0) {
             Slot::Turn(desk) => publish_on(desk, table, lower, upper, cells),
             Slot::Notes(_) => unreachable!(),
         };
-        (Member { seat, number }, done)
+        (
+            Member {
+                seat,
+                number,
+                issued,
+            },
+            done,
+        )
     }
 
     /// Retires the least memtable of a table that is not retired, once its table file is put on the
@@ -173,7 +164,7 @@ impl<K: Keeper, A: Allocator> PathTable<K, A> {
     /// file ended. The desk tells of the file then.
     pub fn retire_filed(&self, member: &mut Member<K>, table: Table, memtable: u64, bound: Key)
         requires table { IsOf self.now.table.shared.table_id self.now.size member.old }
-        requires there { (table.0 < self.now.size.tables) × (memtable < 256) }
+        requires there { (table.0 < self.now.size.tables) × (memtable < 2 ^ 47) }
         requires files { self.now.size.files ≡ true }
         requires turn { (key : ℕ) × TurnSynced (part_of member.old) key
             × (bound.0 ≤ after self.now.size.capacity key)
@@ -234,13 +225,24 @@ impl<K: Keeper, A: Allocator> PathTable<K, A> {
         ensures counts { TellsFaults (hands_of member).lasting.at_open result.1 }
     {
         let closed = (synced.0 >> 31) as u32;
-        let Member { mut seat, number } = member;
+        let Member {
+            mut seat,
+            number,
+            issued,
+        } = member;
         let shared = &self.table.shared;
         let done = match seat.slot_mut(shared, 0) {
             Slot::Turn(desk) => discard_on(desk, closed),
             Slot::Notes(_) => unreachable!(),
         };
-        (Member { seat, number }, done)
+        (
+            Member {
+                seat,
+                number,
+                issued,
+            },
+            done,
+        )
     }
 
     /// The keeper's count of faults as the path tells it, after the keeper on the desk refused a

@@ -2,7 +2,7 @@
 //! takes the boxes of all seats one by one, and gives each back. A box may hold what a retired
 //! memtable of the same parity left there: that is no part of what is read, and may go. The looks
 //! at which a box moves are at the table's newest memtable, a word that hardly ever changes.
-ghost use Rattle.std.specs.Prelude.{◌≡◌, ℕ, suc, ◌+◌, ◌<◌, List, [], Some, None};
+ghost use Rattle.std.specs.Prelude.{◌^◌, ◌≡◌, ℕ, suc, ◌+◌, ◌<◌, List, [], Some, None};
 ghost use Rattle.atomic_table.specs.Table.{rest};
 ghost use Rattle.path_core.specs.declared.event.Cursor.TheVariants.{OldestLive};
 ghost use Rattle.path_core.specs.declared.event.Event.TheVariants.{Look, Put};
@@ -10,15 +10,8 @@ ghost use Rattle.path_core.specs.declared.event.Place.TheVariants.{Bound, Newest
 ghost use Rattle.path_core.specs.declared.note.EntryNote.{EntryNote};
 ghost use Rattle.path_core.specs.declared.state.Bound.TheVariants.{Final};
 ghost use Rattle.path_rule.specs.declared.view.FlushRead.{FlushRead};
-ghost use Rattle.path_rule.specs.Flushes.{
-  next_box,
-  place_below,
-  BeginsAbove,
-  MayRead,
-  SeesNone,
-  TakesNone,
-  TookRead,
-};
+ghost use Rattle.path_rule.specs.Flushes.{next_box, place_below, BeginsAbove, MayRead, SeesNone};
+ghost use Rattle.path_rule.specs.Flushes.{TakesNone, TookRead};
 ghost use Rattle.path_rule.specs.HandsAfter.{box_read, box_seen, first_read, with_reading};
 ghost use Rattle.path_rule.specs.Layout.{bound_word};
 ghost use Rattle.path_rule.specs.Retires.{RetiresEmptyIn};
@@ -26,17 +19,8 @@ ghost use Rattle.path_rule.specs.Rule.{Was};
 ghost use Rattle.path_rule.specs.Switches.{FlushOldest, MayBeginRead};
 ghost use Rattle.path_rule.specs.Told.{CarriesNotes};
 ghost use Rattle.path_rule.specs.Trimmed.{IsTrimmed};
-ghost use Rattle.path_table.specs.Members.{
-  view_of,
-  part_of,
-  hands_of,
-  boxes_of,
-  IsOf,
-  IsSame,
-  KeepsBoxes,
-  PutsBack,
-  SteppedAs,
-};
+ghost use Rattle.path_table.specs.Members.{view_of, part_of, hands_of, boxes_of, IsOf, IsSame};
+ghost use Rattle.path_table.specs.Members.{KeepsBoxes, PutsBack, SteppedAs};
 
 use crate::table::{Member, PathTable};
 use crate::words::{BOUNDS, FINAL, NEWEST, OLDEST_LIVE};
@@ -67,7 +51,7 @@ impl<K: Keeper, A: Allocator> PathTable<K, A> {
     // Begins to read the memtable behind a retired one, whose final bound it finds.
     fn begin_next(&self, member: &mut Member<K>, table: Table, below: u64) -> u64
         requires table { IsOf self.now.table.shared.table_id self.now.size member.old }
-        requires there { (table.0 < self.now.size.tables) × (below < 256) }
+        requires there { (table.0 < self.now.size.tables) × (below < 2 ^ 47) }
         requires stage { MayBeginRead table.0 (view_of member.old) (suc below) }
         requires oldest { FlushOldest table.0 (part_of member.old) (suc below) }
         requires unread { TakesNone (hands_of member.old) }
@@ -79,7 +63,7 @@ impl<K: Keeper, A: Allocator> PathTable<K, A> {
     {
         let word = self.table.shared.load::<BeginNext<K>>(
             &mut member.seat,
-            BOUNDS + 16 * below as usize + table.0 as usize,
+            BOUNDS + 16 * (below % 4) as usize + table.0 as usize,
         );
         word - FINAL
     }
@@ -90,7 +74,7 @@ impl<K: Keeper, A: Allocator> PathTable<K, A> {
     /// begins: the final bound of the memtable below, which is retired, or 0 where there is none.
     pub fn begin_read(&self, member: &mut Member<K>, table: Table, memtable: u64) -> u64
         requires table { IsOf self.now.table.shared.table_id self.now.size member.old }
-        requires there { (table.0 < self.now.size.tables) × (memtable < 256) }
+        requires there { (table.0 < self.now.size.tables) × (memtable < 2 ^ 47) }
         requires stage { MayBeginRead table.0 (view_of member.old) memtable }
         requires oldest { FlushOldest table.0 (part_of member.old) memtable }
         requires unread { TakesNone (hands_of member.old) }
@@ -149,13 +133,21 @@ impl<K: Keeper, A: Allocator> PathTable<K, A> {
         let Member {
             mut seat,
             number: by,
+            issued,
         } = member;
         let shared = &self.table.shared;
         let notes = match seat.slot_mut(shared, number) {
             Slot::Notes(held) => replace(held, LinkedList::new(alloc)),
             Slot::Turn(_) => unreachable!(),
         };
-        (Member { seat, number: by }, notes)
+        (
+            Member {
+                seat,
+                number: by,
+                issued,
+            },
+            notes,
+        )
     }
 
     /// Puts notes into that box, which is empty.
@@ -174,13 +166,18 @@ impl<K: Keeper, A: Allocator> PathTable<K, A> {
         let Member {
             mut seat,
             number: by,
+            issued,
         } = member;
         let shared = &self.table.shared;
         match seat.slot_mut(shared, number) {
             Slot::Notes(held) => *held = notes,
             Slot::Turn(_) => unreachable!(),
         }
-        Member { seat, number: by }
+        Member {
+            seat,
+            number: by,
+            issued,
+        }
     }
 
     /// Gives that box back: what lay in it of the memtable was seen. Notes in front that end at or
@@ -220,7 +217,7 @@ impl<K: Keeper, A: Allocator> PathTable<K, A> {
     /// seen and nothing was placed in it. It has no table file.
     pub fn retire_empty(&self, member: &mut Member<K>, table: Table, memtable: u64)
         requires table { IsOf self.now.table.shared.table_id self.now.size member.old }
-        requires there { (table.0 < self.now.size.tables) × (memtable < 256) }
+        requires there { (table.0 < self.now.size.tables) × (memtable < 2 ^ 47) }
         requires sees { SeesNone self.now.size.seats (hands_of member.old) table.0 memtable }
         ensures same { KeepsBoxes member.old member.new }
         ensures step { SteppedAs member.old

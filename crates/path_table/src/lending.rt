@@ -1,18 +1,6 @@
 //! What the holder of the Sync turn does with the boxes that it has in hand: it puts the notes of a
 //! gathered box on the desk, and lends the keeper on the desk what is pending. Neither is a step.
-ghost use Rattle.std.specs.Prelude.{
-  ◌≡◌,
-  ◌+◌,
-  ◌<◌,
-  ◌^◌,
-  List,
-  [],
-  ◌∷◌,
-  ◌++◌,
-  length,
-  OnOk,
-  OnErr,
-};
+ghost use Rattle.std.specs.Prelude.{◌≡◌, ◌+◌, ◌<◌, ◌^◌, List, [], ◌∷◌, ◌++◌, length, OnOk, OnErr};
 ghost use Rattle.std.specs.List.Sorted.{IsNonDecreasingBy, IsPermutation};
 ghost use Rattle.atomic_table.specs.Table.{rest, turned};
 ghost use Rattle.path_core.specs.declared.note.EntryNote.{EntryNote};
@@ -22,13 +10,8 @@ ghost use Rattle.path_rule.specs.Desks.{pending_on, HasDesk, HasDeskBehind};
 ghost use Rattle.path_rule.specs.Lasts.{shows_of, stopped_with};
 ghost use Rattle.path_rule.specs.SyncEnd.{stopped_by, TellsFaults};
 ghost use Rattle.path_rule.specs.Told.{CarriesNotes};
-ghost use Rattle.path_rule.specs.TurnTold.{
-  CarriesDesk,
-  CarriesAs,
-  CarriesSynced,
-  CarriesRefused,
-  MayLend,
-};
+ghost use Rattle.path_rule.specs.TurnTold.{CarriesDesk, CarriesAs, CarriesSynced, CarriesRefused};
+ghost use Rattle.path_rule.specs.TurnTold.{MayLend};
 ghost use Rattle.path_table.specs.Members.{view_of, hands_of, boxes_of, IsSame};
 
 use crate::table::{Member, PathTable};
@@ -113,13 +96,24 @@ impl<K: Keeper, A: Allocator> PathTable<K, A> {
             × (rest (boxes_of result.0) ≡ rest (boxes_of member))) }
         ensures counts { TellsFaults (hands_of member).lasting.at_open result.1 }
     {
-        let Member { mut seat, number } = member;
+        let Member {
+            mut seat,
+            number,
+            issued,
+        } = member;
         let shared = &self.table.shared;
         let done = match seat.slot_mut(shared, 0) {
             Slot::Turn(desk) => lend_pending(desk, upto),
             Slot::Notes(_) => unreachable!(),
         };
-        (Member { seat, number }, done)
+        (
+            Member {
+                seat,
+                number,
+                issued,
+            },
+            done,
+        )
     }
 
     // Takes the notes out of the box that the member took last.
@@ -140,6 +134,7 @@ impl<K: Keeper, A: Allocator> PathTable<K, A> {
         let Member {
             mut seat,
             number: by,
+            issued,
         } = member;
         let shared = &self.table.shared;
         let done = match seat.slot_mut(shared, number) {
@@ -149,7 +144,11 @@ impl<K: Keeper, A: Allocator> PathTable<K, A> {
         if done.is_err() {
             unreachable!()
         }
-        Member { seat, number: by }
+        Member {
+            seat,
+            number: by,
+            issued,
+        }
     }
 
     // Puts notes on the desk, which the member took last, behind what is pending.
@@ -162,7 +161,11 @@ impl<K: Keeper, A: Allocator> PathTable<K, A> {
             ((hands_of member).pending ++ taken.old) (hands_of member).progress result.seat.me }
         ensures others { rest (boxes_of result) ≡ rest (boxes_of member) }
     {
-        let Member { mut seat, number } = member;
+        let Member {
+            mut seat,
+            number,
+            issued,
+        } = member;
         let shared = &self.table.shared;
         let done = match seat.slot_mut(shared, 0) {
             Slot::Turn(desk) => desk.gathered.append(taken),
@@ -171,7 +174,11 @@ impl<K: Keeper, A: Allocator> PathTable<K, A> {
         if done.is_err() {
             unreachable!()
         }
-        Member { seat, number }
+        Member {
+            seat,
+            number,
+            issued,
+        }
     }
 
     /// Puts the notes of the gathered box, which the member took last, on the desk, its only other
@@ -198,7 +205,15 @@ fn turned_member<K>(member: Member<K>) -> Member<K>
     ensures same { IsSame member result × (view_of result ≡ view_of member) }
     ensures boxes { boxes_of result ≡ turned (boxes_of member) }
 {
-    let Member { mut seat, number } = member;
+    let Member {
+        mut seat,
+        number,
+        issued,
+    } = member;
     seat.turn();
-    Member { seat, number }
+    Member {
+        seat,
+        number,
+        issued,
+    }
 }

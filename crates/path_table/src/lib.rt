@@ -36,4 +36,4 @@ pub use bounds::TableBounds;
 pub use opening::open;
 pub use table::{Member, Opener, PathTable};
 pub use trying::{Begun, PathSeat, Seen};
-pub use words::{EXPIRED, GROUPS, LAST_GROUP};
+pub use words::{EXPIRED, ONE_GROUP};

@@ -52,7 +52,7 @@ impl<K: Keeper, A: Allocator> PathTable<K, A> {
             × Stepped member.old (Look member.old.number (CursorWord Synced)) found member.new
             × IsDoneBy upto found result }
         ensures answer { WroteBelow upto (view_of member.old).trail
-            → MayAnswer member.old.number self.now.size.at_open (view_of member.old) result
+            → MayAnswer member.old.number 0 self.now.size.at_open (view_of member.old) result
             (view_of member.new) }
     {
         let synced = self.look_synced(member);

@@ -1,16 +1,5 @@
 //! A table is opened, and its seats are handed out.
-ghost use Rattle.std.specs.Prelude.{
-  ◌≡◌,
-  ◌+◌,
-  ◌<◌,
-  ◌≤◌,
-  ℕ,
-  [],
-  length,
-  slice_index,
-  IfOk,
-  IfErr,
-};
+ghost use Rattle.std.specs.Prelude.{◌≡◌, ◌+◌, ◌<◌, ◌≤◌, ℕ, [], length, slice_index, IfOk, IfErr};
 ghost use Rattle.path_rule.specs.Boxed.{AreFirst};
 ghost use Rattle.path_rule.specs.Boxes.{all_boxes, first_progress};
 ghost use Rattle.path_rule.specs.FirstBoxes.{AreEmpty, HasInFront};
@@ -112,7 +101,7 @@ fn first_words(alloc: Global) -> Result<Vec<u64>, AllocError>
 }
 
 /// Opens a table for a machine of these sizes, over a keeper that was just opened for them. It
-/// answers the table and the seat that hands out the others. It takes 135,240 words. Where memory
+/// answers the table and the seat that hands out the others. It takes 200 words. Where memory
 /// is refused the keeper comes back.
 pub fn open<K: Keeper + Drop>(
     alloc: Global,
@@ -161,6 +150,10 @@ impl<K: Keeper, A: Allocator> PathTable<K, A> {
         let seat = self.table.shared.split_seat::<Deal>(&mut opener.seat);
         let number = opener.made;
         opener.made += 1;
-        Member { seat, number }
+        Member {
+            seat,
+            number,
+            issued: 0,
+        }
     }
 }

@@ -1,5 +1,5 @@
 //! The bound of the memtable that the holder of a Flush turn reads.
-ghost use Rattle.std.specs.Prelude.{◌≡◌, ◌<◌, Some};
+ghost use Rattle.std.specs.Prelude.{◌^◌, ◌≡◌, ◌<◌, Some};
 ghost use Rattle.path_core.specs.declared.event.Event.TheVariants.{Look};
 ghost use Rattle.path_core.specs.declared.event.Place.TheVariants.{Bound};
 ghost use Rattle.path_core.specs.declared.state.Bound.TheVariants.{Final};
@@ -32,7 +32,7 @@ impl<K: Keeper, A: Allocator> PathTable<K, A> {
     /// The bound of the memtable of a table that the member reads: it is final, whoever made it so.
     pub fn look_read_bound(&self, member: &mut Member<K>, table: Table, memtable: u64) -> Key
         requires table { IsOf self.now.table.shared.table_id self.now.size member.old }
-        requires there { (table.0 < self.now.size.tables) × (memtable < 256) }
+        requires there { (table.0 < self.now.size.tables) × (memtable < 2 ^ 47) }
         requires reads { (q : FlushRead) × ((hands_of member.old).reading ≡ Some q)
             × (q.table ≡ table.0) × (q.memtable ≡ memtable) }
         ensures same { KeepsBoxes member.old member.new }
@@ -42,7 +42,7 @@ impl<K: Keeper, A: Allocator> PathTable<K, A> {
     {
         let word = self.table.shared.load::<ReadBound<K>>(
             &mut member.seat,
-            BOUNDS + 16 * memtable as usize + table.0 as usize,
+            BOUNDS + 16 * (memtable % 4) as usize + table.0 as usize,
         );
         let key = word - FINAL;
         Key(key)

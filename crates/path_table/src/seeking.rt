@@ -1,21 +1,15 @@
 //! What the holder of the Sync turn looks at for a barrier of either order. What it finds is exact
 //! while it holds the turn: the current group (`TurnSaw`), the oldest one (`TurnOld`), and one
 //! whose count is finished (`TurnGone`).
-ghost use Rattle.std.specs.Prelude.{◌≡◌, ℕ, ◌<◌, ◌^◌, Some};
+ghost use Rattle.std.specs.Prelude.{◌+◌, ◌*◌, ◌≡◌, ℕ, ◌<◌, ◌^◌, Some};
 ghost use Rattle.path_core.specs.declared.event.Event.TheVariants.{Look};
 ghost use Rattle.path_core.specs.declared.event.Place.TheVariants.{Count, Current, Oldest};
 ghost use Rattle.path_core.specs.declared.seat.Issue.TheVariants.{Rest};
 ghost use Rattle.path_core.specs.Parts.{found_of, marker_of, stage_of};
 ghost use Rattle.path_rule.specs.Calls.{Holds};
 ghost use Rattle.path_rule.specs.Layout.{word_at};
-ghost use Rattle.path_rule.specs.Turns.{
-  FoundRunning,
-  TurnSaw,
-  TurnOld,
-  TurnGone,
-  KeepsCurrent,
-  KeepsOldest,
-};
+ghost use Rattle.path_rule.specs.Turns.{FoundRunning, TurnSaw, TurnOld, TurnGone, KeepsCurrent};
+ghost use Rattle.path_rule.specs.Turns.{KeepsOldest};
 ghost use Rattle.path_table.specs.Members.{view_of, part_of, hands_of, IsOf, KeepsSizes, Stepped};
 
 use crate::table::{Member, PathTable};
@@ -48,12 +42,11 @@ fn oldest_word(order: Order) -> usize
 }
 
 fn count_word(order: Order, group: u64) -> usize
-    requires { group < 65536 }
     ensures { result ≡ word_at (Count order group) }
 {
     match order {
-        Order::Write => WRITE_COUNTS + 2 * group as usize,
-        Order::Append => APPEND_COUNTS + 2 * group as usize,
+        Order::Write => WRITE_COUNTS + 2 * (group % 32) as usize,
+        Order::Append => APPEND_COUNTS + 2 * (group % 32) as usize,
     }
 }
 
@@ -65,7 +58,7 @@ impl<K: Keeper, A: Allocator> PathTable<K, A> {
         ensures same { KeepsSizes member.old member.new }
         ensures step { Stepped member.old (Look member.old.number (Current order)) result
             member.new }
-        ensures below { result < 65536 }
+        ensures below { result < 2 ^ 47 }
         ensures turn { Holds Rest (view_of member.new)
             × TurnSaw order (part_of member.new) result }
         ensures marker { marker_of (part_of member.new) ≡ marker_of (part_of member.old) }
@@ -86,8 +79,10 @@ impl<K: Keeper, A: Allocator> PathTable<K, A> {
         ensures same { KeepsSizes member.old member.new }
         ensures step { Stepped member.old (Look member.old.number (Oldest order)) result
             member.new }
-        ensures below { result < 65536 }
+        ensures below { result < 2 ^ 47 }
         ensures found { (found_of order (part_of member.new)).oldest ≡ Some result }
+        ensures marker { marker_of (part_of member.new) ≡ marker_of (part_of member.old) }
+        ensures runs { FoundRunning (part_of member.old) → FoundRunning (part_of member.new) }
         ensures turn { Holds Rest (view_of member.new) × TurnOld order (part_of member.new) result
             × KeepsCurrent order (part_of member.old) (part_of member.new) }
         ensures hands { hands_of member.new ≡ hands_of member.old }
@@ -99,20 +94,23 @@ impl<K: Keeper, A: Allocator> PathTable<K, A> {
             .load::<LookAt<K>>(&mut member.seat, oldest_word(order))
     }
 
-    /// The count of the oldest group, as its word is found: with the mark of an expired group in
-    /// its highest bit.
+    /// The word of the oldest group as it is found: its number and its count, with the mark of an
+    /// expired group in its highest bit.
     pub fn seek_count(&self, member: &mut Member<K>, order: Order, group: u64) -> u64
         requires table { IsOf self.now.table.shared.table_id self.now.size member.old }
         requires turn { Holds Rest (view_of member.old) × TurnOld order (part_of member.old) group
-            × (group < 65536) }
+            × (group < 2 ^ 47) }
         ensures same { KeepsSizes member.old member.new }
         ensures step { Stepped member.old (Look member.old.number (Count order group)) result
             member.new }
         ensures turn { Holds Rest (view_of member.new)
             × KeepsCurrent order (part_of member.old) (part_of member.new)
             × KeepsOldest order (part_of member.old) (part_of member.new) }
-        ensures gone { result ≡ 2 ^ 63 → TurnGone order (part_of member.new) group }
-        ensures below { (c : ℕ) → result ≡ 2 ^ 63 → TurnSaw order (part_of member.old) c
+        ensures marker { marker_of (part_of member.new) ≡ marker_of (part_of member.old) }
+        ensures runs { FoundRunning (part_of member.old) → FoundRunning (part_of member.new) }
+        ensures gone { result ≡ 65536 * group + 2 ^ 63 → TurnGone order (part_of member.new) group }
+        ensures below { (c : ℕ) → result ≡ 65536 * group + 2 ^ 63
+            → TurnSaw order (part_of member.old) c
             → group < c }
         ensures hands { hands_of member.new ≡ hands_of member.old }
         ensures stages { (t : ℕ) → stage_of (part_of member.new) t

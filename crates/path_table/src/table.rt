@@ -2,6 +2,7 @@
 ghost use Rattle.std.specs.Prelude.{◌≡◌, []};
 ghost use Rattle.path_rule.specs.declared.view.Role.TheVariants as roles;
 ghost use Rattle.path_rule.specs.Boxes.{all_boxes};
+ghost use Rattle.path_rule.specs.Issued.{issued_in};
 ghost use Rattle.path_rule.specs.Rule.{IsFit};
 
 use atomic_table::{Seat, Table};
@@ -16,7 +17,7 @@ pub struct PathTable<K: Keeper, A: Allocator> {
     /// The sizes of the path.
     pub(crate) size: PathSize,
     pub ghost keyed: { table.shared.key.size ≡ size },
-    pub ghost wide: { table.shared.table_id.words ≡ 135240 },
+    pub ghost wide: { table.shared.table_id.words ≡ 200 },
     pub ghost deep: { table.shared.table_id.slots ≡ all_boxes size.seats },
     pub ghost fits: { IsFit size },
 }
@@ -28,7 +29,10 @@ pub struct Member<K> {
     pub(crate) seat: Seat<Slot<K>, View>,
     /// The number of its seat.
     pub(crate) number: u8,
+    /// How many barriers it has issued, of both orders.
+    pub(crate) issued: u64,
     pub ghost role: { seat.me.0.role ≡ roles.Steps number },
+    pub ghost counted: { issued ≡ issued_in seat.me.0.trail },
 }
 
 /// The seat of the table that hands out the others.

@@ -1,29 +1,32 @@
 //! Calls that make one attempt and wait for nobody.
-ghost use Rattle.std.specs.Prelude.{◌≡◌, ℕ, ◌<◌, [], Some, None, MatchResult, length};
+ghost use Rattle.std.specs.Prelude.{◌^◌, ◌≡◌, ℕ, ◌<◌, ◌≤◌, [], Some, None, MatchResult, length};
 ghost use Rattle.op_core.specs.declared.count.Order.TheVariants.{Write};
 ghost use Rattle.path_core.specs.declared.event.Carried.TheVariants.{Nothing};
 ghost use Rattle.path_core.specs.declared.event.Event.TheVariants.{Close};
 ghost use Rattle.path_core.specs.declared.event.Place.TheVariants.{Count};
 ghost use Rattle.path_core.specs.Parts.{HoldsNoTurn, IsIdle};
+ghost use Rattle.path_rule.specs.Issued.{issued_in, opened_in};
 ghost use Rattle.path_rule.specs.Calls.{Started, Refused, acts, FoundSince};
 ghost use Rattle.path_table.specs.Members.{view_of, IsOf, IsSame, Stepped};
 
 use crate::table::{Member, PathTable};
-use crate::words::EXPIRED;
+use crate::words::{EXPIRED, ONE_GROUP};
 use path_core::Keeper;
 use std::alloc::Allocator;
 
-/// Why a seat did not join a group: the count that it looked at was expired, or another one was
-/// found then.
+/// Why a seat did not join a group: the word of its count was found expired or with another group's
+/// number, or another word was found then. A word has the mark of an expired group in its highest
+/// bit, the group's number in the 47 bits below, and the operations in the lowest 16.
 #[derive(Clone, Copy, Drop)]
 pub struct Seen {
-    /// The count that it looked at.
+    /// The word that it looked at.
     pub looked: u64,
-    /// The count that it found then, where it tried to join.
+    /// The word that it found then: another one only where it tried to join.
     pub found: u64,
 }
 
-/// An idle seat: it is in no group, has claimed nothing, and has neither a turn nor a box.
+/// An idle seat: it is in no group, has claimed nothing, and has neither a turn nor a box. It has
+/// issued a barrier for each memtable that it made.
 #[derive(Drop)]
 pub struct PathSeat<K> {
     /// The seat.
@@ -32,6 +35,7 @@ pub struct PathSeat<K> {
     pub ghost unclaimed: { member.seat.me.0.part.claim ≡ None },
     pub ghost free: { HoldsNoTurn member.seat.me.0.part },
     pub ghost bare: { member.seat.me.1 ≡ [] },
+    pub ghost paid: { opened_in member.seat.me.0.trail ≤ issued_in member.seat.me.0.trail },
 }
 
 /// A seat in a group of the write order, before it appends.
@@ -46,6 +50,16 @@ pub struct Begun<K> {
     pub ghost unclaimed: { member.seat.me.0.part.claim ≡ None },
     pub ghost free: { HoldsNoTurn member.seat.me.0.part },
     pub ghost bare: { member.seat.me.1 ≡ [] },
+    pub ghost paid: { opened_in member.seat.me.0.trail ≤ issued_in member.seat.me.0.trail },
+}
+
+impl<K> PathSeat<K> {
+    /// How many barriers it has issued, of both orders.
+    pub fn issued(&self) -> u64
+        ensures { result ≡ issued_in (view_of self.now.member).trail }
+    {
+        self.member.issued
+    }
 }
 
 impl<K: Keeper, A: Allocator> PathTable<K, A> {
@@ -55,7 +69,7 @@ impl<K: Keeper, A: Allocator> PathTable<K, A> {
         requires { IsOf self.now.table.shared.table_id self.now.size seat.member }
         ensures { MatchResult result
             (λ b. (b.member.seat.table_id ≡ seat.member.seat.table_id)
-            × (b.member.number ≡ seat.member.number) × (b.group < 65536)
+            × (b.member.number ≡ seat.member.number) × (b.group < 2 ^ 47)
             × Started (view_of seat.member) seat.member.number Write b.group (view_of b.member))
             (λ r. (r.0.member.seat.table_id ≡ seat.member.seat.table_id)
             × (r.0.member.number ≡ seat.member.number)
@@ -68,7 +82,7 @@ impl<K: Keeper, A: Allocator> PathTable<K, A> {
         let PathSeat { mut member } = seat;
         let group = self.look_write(&mut member);
         let looked = self.look_writers(&mut member, group);
-        if looked >= EXPIRED {
+        if looked >= EXPIRED || looked / ONE_GROUP != group {
             let seen = Seen {
                 looked,
                 found: looked,
@@ -86,7 +100,7 @@ impl<K: Keeper, A: Allocator> PathTable<K, A> {
     /// Leaves the write order, before a claim.
     pub fn stop(&self, seat: Begun<K>) -> PathSeat<K>
         requires table { IsOf self.now.table.shared.table_id self.now.size seat.member }
-        requires group { seat.group < 65536 }
+        requires group { seat.group < 2 ^ 47 }
         ensures same { IsSame seat.member result.member }
         ensures step { (n : ℕ) × Stepped seat.member
             (Close seat.member.number Write seat.group Nothing) n result.member }

@@ -1,8 +1,8 @@
 //! Where the words of the table stand. `Layout` of `path_rule` has the place of each, and the law
-//! that no two places share a word.
+//! that of those that share a word one is shown.
 
 /// How many words there are.
-pub(crate) const WORDS: usize = 135_240;
+pub(crate) const WORDS: usize = 200;
 
 /// The number of the current group of the write order.
 pub(crate) const CURRENT_WRITE: usize = 0;
@@ -38,8 +38,8 @@ pub(crate) const FLUSH_TURN: usize = 9;
 pub(crate) const OLDEST_LIVE: usize = 10;
 
 /// The bounds of the tables' first memtables: one word on for each next table, sixteen for each
-/// next memtable.
-pub(crate) const BOUNDS: usize = 131_144;
+/// next memtable. There are four for each table, which are used again.
+pub(crate) const BOUNDS: usize = 136;
 
 /// The mark of a raising bound, above all keys.
 pub(crate) const RAISING: u64 = 0x4000_0000_0000_0000;
@@ -47,7 +47,8 @@ pub(crate) const RAISING: u64 = 0x4000_0000_0000_0000;
 /// The mark of a final bound.
 pub(crate) const FINAL: u64 = 0x8000_0000_0000_0000;
 
-/// The counts of the groups of the write order: two words on for each next group.
+/// The counts of the groups of the write order: two words on for each next group, 32 in all, which
+/// are used again.
 pub(crate) const WRITE_COUNTS: usize = 72;
 
 /// The counts of the groups of the append order, between those of the write order.
@@ -56,11 +57,8 @@ pub(crate) const APPEND_COUNTS: usize = 73;
 /// The highest bit of a count, which marks an expired group.
 pub const EXPIRED: u64 = 0x8000_0000_0000_0000;
 
-/// How many groups of each order have a word.
-pub const GROUPS: u64 = 65_536;
-
-/// The last group of an order that has a word.
-pub const LAST_GROUP: u64 = 65_535;
+/// What a group's number adds to the word of its count.
+pub const ONE_GROUP: u64 = 65_536;
 
 /// Where the log begins, in the first segment.
 pub(crate) const FIRST_KEY: u64 = 28;

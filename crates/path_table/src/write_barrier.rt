@@ -1,25 +1,22 @@
 //! The steps of a barrier of the write order, each with what its holder knows since: how far the
 //! issue has got (`Holds`), and the current group (`TurnSaw`).
-ghost use Rattle.std.specs.Prelude.{◌≡◌, ℕ, suc, ◌<◌, ◌≤◌, Some};
+ghost use Rattle.std.specs.Prelude.{◌*◌, ◌^◌, ◌≡◌, ℕ, suc, ◌+◌, ◌<◌, ◌≤◌, Some};
 ghost use Rattle.op_core.specs.declared.count.Order.TheVariants.{Write};
-ghost use Rattle.path_core.specs.declared.event.Event.TheVariants.{
-  OpenGroup,
-  MoveCurrent,
-  Expire,
-  Advance,
-};
+ghost use Rattle.path_core.specs.declared.event.Event.TheVariants.{OpenGroup, MoveCurrent, Expire};
+ghost use Rattle.path_core.specs.declared.event.Event.TheVariants.{Advance};
 ghost use Rattle.path_core.specs.declared.seat.Issue.TheVariants.{Rest, Opened, Moved};
 ghost use Rattle.path_core.specs.declared.seat.Switching.TheVariants.{Waiting, WithBarrier};
 ghost use Rattle.path_core.specs.Allowed.{IsAllowed};
 ghost use Rattle.path_core.specs.Holders.{HasWaiting};
-ghost use Rattle.path_core.specs.Parts.{stage_of};
+ghost use Rattle.path_core.specs.Parts.{marker_of, stage_of};
 ghost use Rattle.path_rule.specs.Calls.{Holds};
+ghost use Rattle.path_rule.specs.Issued.{issued_in, most_issued};
 ghost use Rattle.path_rule.specs.Rule.{Was};
-ghost use Rattle.path_rule.specs.Turns.{TurnSaw, TurnOld, TurnGone, KeepsCurrent};
+ghost use Rattle.path_rule.specs.Turns.{FoundRunning, TurnSaw, TurnOld, TurnGone, KeepsCurrent};
 ghost use Rattle.path_table.specs.Members.{view_of, part_of, hands_of, IsOf, KeepsSizes, Stepped};
 
 use crate::table::{Member, PathTable};
-use crate::words::{CURRENT_WRITE, EXPIRED, OLDEST_WRITE, WRITE_COUNTS};
+use crate::words::{CURRENT_WRITE, EXPIRED, OLDEST_WRITE, ONE_GROUP, WRITE_COUNTS};
 use path_core::Keeper;
 use path_rule::{AdvanceWrite, ExpireWrite, MoveWrite, OpenWrite};
 use std::alloc::Allocator;
@@ -31,10 +28,14 @@ impl<K: Keeper, A: Allocator> PathTable<K, A> {
         requires table { IsOf self.now.table.shared.table_id self.now.size member.old }
         requires turn { Holds Rest (view_of member.old)
             × TurnSaw Write (part_of member.old) current × (group ≡ suc current)
-            × (group < 65536) }
+            × (issued_in (view_of member.old).trail < most_issued) }
+        requires small { current < 2 ^ 47 }
         requires waiting { HasWaiting (part_of member.old) }
+        requires free { (oldest : ℕ) × TurnOld Write (part_of member.old) oldest
+            × (group ≤ oldest + 31) }
         ensures same { KeepsSizes member.old member.new }
-        ensures step { Stepped member.old (OpenGroup member.old.number Write group) 0 member.new }
+        ensures step { Stepped member.old (OpenGroup member.old.number Write group) (65536 * group)
+            member.new }
         ensures turn { Holds (Opened Write) (view_of member.new)
             × KeepsCurrent Write (part_of member.old) (part_of member.new) }
         ensures allowed { (was : Was (view_of member.old) member.old.number
@@ -43,9 +44,12 @@ impl<K: Keeper, A: Allocator> PathTable<K, A> {
         ensures stages { (t : ℕ) → stage_of (part_of member.new) t
             ≡ stage_of (part_of member.old) t }
     {
-        self.table
-            .shared
-            .store::<OpenWrite<K>>(&mut member.seat, WRITE_COUNTS + 2 * group as usize, 0);
+        self.table.shared.store::<OpenWrite<K>>(
+            &mut member.seat,
+            WRITE_COUNTS + 2 * (group % 32) as usize,
+            ONE_GROUP * group,
+        );
+        member.issued += 1;
     }
 
     /// Makes that group the current one. What waited for its barrier has it: the group that was
@@ -74,7 +78,7 @@ impl<K: Keeper, A: Allocator> PathTable<K, A> {
         requires table { IsOf self.now.table.shared.table_id self.now.size member.old }
         requires turn { Holds (Moved Write) (view_of member.old)
             × TurnSaw Write (part_of member.old) current × (suc group ≡ current)
-            × (group < 65536) }
+            × (group < 2 ^ 47) }
         ensures same { KeepsSizes member.old member.new }
         ensures step { Stepped member.old (Expire member.old.number Write group) result
             member.new }
@@ -85,7 +89,7 @@ impl<K: Keeper, A: Allocator> PathTable<K, A> {
     {
         self.table.shared.fetch_add::<ExpireWrite<K>>(
             &mut member.seat,
-            WRITE_COUNTS + 2 * group as usize,
+            WRITE_COUNTS + 2 * (group % 32) as usize,
             EXPIRED,
         )
     }
@@ -103,6 +107,8 @@ impl<K: Keeper, A: Allocator> PathTable<K, A> {
             member.new }
         ensures turn { Holds Rest (view_of member.new)
             × KeepsCurrent Write (part_of member.old) (part_of member.new) }
+        ensures marker { marker_of (part_of member.new) ≡ marker_of (part_of member.old) }
+        ensures runs { FoundRunning (part_of member.old) → FoundRunning (part_of member.new) }
         ensures hands { hands_of member.new ≡ hands_of member.old }
         ensures stages { (t : ℕ) → stage_of (part_of member.new) t
             ≡ stage_of (part_of member.old) t }

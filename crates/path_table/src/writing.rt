@@ -1,4 +1,5 @@
 //! The steps of a writer on the write order: it looks, is in a group, and leaves it.
+ghost use Rattle.op_core.specs.CountWords.{number_in};
 ghost use Rattle.std.specs.Prelude.{◌≡◌, ◌≢◌, ◌+◌, ◌<◌, ◌^◌, Some, None};
 ghost use Rattle.op_core.specs.declared.count.Order.TheVariants.{Write};
 ghost use Rattle.path_core.specs.declared.event.Carried.TheVariants.{Nothing};
@@ -21,44 +22,48 @@ impl<K: Keeper, A: Allocator> PathTable<K, A> {
         ensures same { KeepsBoxes member.old member.new }
         ensures step { Stepped member.old (Look member.old.number (Current Write)) result
             member.new }
-        ensures below { result < 65536 }
+        ensures below { result < 2 ^ 47 }
     {
         self.table
             .shared
             .load::<LookAt<K>>(&mut member.seat, CURRENT_WRITE)
     }
 
-    /// The count of a group of the write order, with the expired mark in its highest bit. The
-    /// member knows that the group was made: it found it as the current or as the oldest one.
+    /// The word of a group of the write order, which tells the number and the count of the last
+    /// group that took it. The member knows that the group was made: it found it as the current or
+    /// as the oldest one.
     pub fn look_writers(&self, member: &mut Member<K>, group: u64) -> u64
         requires table { IsOf self.now.table.shared.table_id self.now.size member.old }
-        requires group { (group < 65536) × Sighted (view_of member.old) (Count Write group) }
+        requires group { (group < 2 ^ 47) × Sighted (view_of member.old) (Count Write group) }
         ensures same { KeepsBoxes member.old member.new }
-        ensures step { Stepped member.old (Look member.old.number (Count Write group)) result
+        ensures step { Stepped member.old (Look member.old.number (Count Write (number_in result)))
+            result
             member.new }
     {
         self.table
             .shared
-            .load::<LookAt<K>>(&mut member.seat, WRITE_COUNTS + 2 * group as usize)
+            .load::<LookAt<K>>(&mut member.seat, WRITE_COUNTS + 2 * (group % 32) as usize)
     }
 
-    /// Joins the group that the member last found current, if its count is still the one that was
-    /// looked at (`OpOrder.Group.register`). Returns the count that it found: where that is
+    /// Joins the group that the member last found current, if its word is still the one that was
+    /// looked at (`OpOrder.Group.register`). Returns the word that it found: where that is
     /// another, this was a look.
     pub fn register(&self, member: &mut Member<K>, group: u64, looked: u64) -> u64
         requires table { IsOf self.now.table.shared.table_id self.now.size member.old }
-        requires group { (group < 65536)
-            × ((found_of Write (part_of member.old)).current ≡ Some group) × (looked < 2 ^ 63) }
+        requires group { (group < 2 ^ 47)
+            × ((found_of Write (part_of member.old)).current ≡ Some group)
+            × (number_in looked ≡ group) × (looked < 2 ^ 63) }
         requires idle { IsIdle (part_of member.old) × HoldsNoTurn (part_of member.old) }
         ensures same { KeepsBoxes member.old member.new }
         ensures hit { result ≡ looked
             → Stepped member.old (Register member.old.number Write group) (looked + 1) member.new }
         ensures miss { result ≢ looked
-            → Stepped member.old (Look member.old.number (Count Write group)) result member.new }
+            → Stepped member.old (Look member.old.number (Count Write (number_in result))) result
+            member.new }
     {
         self.table.shared.compare_exchange::<RegisterIn<K>>(
             &mut member.seat,
-            WRITE_COUNTS + 2 * group as usize,
+            WRITE_COUNTS + 2 * (group % 32) as usize,
             looked,
             looked + 1,
         )
@@ -67,15 +72,17 @@ impl<K: Keeper, A: Allocator> PathTable<K, A> {
     /// Leaves the write order, before a claim. Returns the count that it found.
     pub fn leave(&self, member: &mut Member<K>, group: u64) -> u64
         requires table { IsOf self.now.table.shared.table_id self.now.size member.old }
-        requires group { (group < 65536) × ((part_of member.old).write ≡ Some group) }
+        requires group { (group < 2 ^ 47) × ((part_of member.old).write ≡ Some group) }
         requires unclaimed { ((part_of member.old).append ≡ None)
             × ((part_of member.old).claim ≡ None) }
         ensures same { KeepsBoxes member.old member.new }
         ensures step { Stepped member.old (Close member.old.number Write group Nothing) result
             member.new }
     {
-        self.table
-            .shared
-            .fetch_sub::<StopIn<K>>(&mut member.seat, WRITE_COUNTS + 2 * group as usize, 1)
+        self.table.shared.fetch_sub::<StopIn<K>>(
+            &mut member.seat,
+            WRITE_COUNTS + 2 * (group % 32) as usize,
+            1,
+        )
     }
 }

@@ -1,5 +1,5 @@
 //! A write of two tables, call by call.
-ghost use Rattle.std.specs.Prelude.{◌≡◌, suc, ◌<◌, IfSome};
+ghost use Rattle.std.specs.Prelude.{◌^◌, ◌≡◌, suc, ◌<◌, IfSome};
 ghost use Rattle.clog_mutation.specs.declared.mutation.Mutation.{Mutation};
 ghost use Rattle.path_core.specs.Parts.{touches};
 ghost use Rattle.path_table.specs.Members.{IsOf};
@@ -74,7 +74,7 @@ fn place_and_end<K: Keeper>(
     rest: Prepared,
 ) -> Option<(PathSeat<K>, u64, u64)>
     requires table { IsOf path.now.table.table.shared.table_id path.now.table.size seat.member }
-    requires group { seat.writing < 65536 }
+    requires group { seat.writing < 2 ^ 47 }
     requires tables { path.now.table.size.tables ≡ 16 }
     requires untried { IsUntriedFrom 0 seat }
     requires holds { HoldsUpdates seat rest }

@@ -1,13 +1,14 @@
 //! Two seats and a barrier, its steps one by one by hand, and that a table and its seats go between
 //! threads.
-ghost use Rattle.std.specs.Prelude.{◌≡◌, ◌<◌, None, Some, IfOk};
+ghost use Rattle.std.specs.Prelude.{◌≡◌, ℕ, ◌+◌, ◌<◌, ◌≤◌, [], None, Some, IfOk};
 ghost use Rattle.op_core.specs.declared.count.Order.TheVariants.{Write};
 ghost use Rattle.path_core.specs.declared.seat.Issue.TheVariants.{Rest};
 ghost use Rattle.path_core.specs.declared.seat.Switching.TheVariants.{Waiting};
 ghost use Rattle.path_core.specs.Holders.{HasWaiting};
 ghost use Rattle.path_core.specs.Parts.{IsIdle, stage_of};
 ghost use Rattle.path_rule.specs.Calls.{Holds};
-ghost use Rattle.path_rule.specs.Turns.{TurnSaw};
+ghost use Rattle.path_rule.specs.Issued.{issued_in, most_issued};
+ghost use Rattle.path_rule.specs.Turns.{TurnOld, TurnSaw};
 ghost use Rattle.path_table.specs.Members.{view_of, part_of, IsOf};
 
 use clog_base::{Sizes, Table};
@@ -16,7 +17,7 @@ use path_core::Keeper;
 use path_machine::ListKeeper;
 use path_rounds::{Advance, Holder, try_advance, write_barrier};
 use path_rule::PathSize;
-use path_table::{Member, Opener, PathSeat, PathTable, open};
+use path_table::{Member, ONE_GROUP, Opener, PathSeat, PathTable, open};
 use std::alloc::Global;
 use std::test::*;
 
@@ -64,14 +65,16 @@ pub(crate) fn opened(
     }
 }
 
-// An idle seat takes the turn of table 0, and makes its first memtable final.
+// An idle seat that made no step takes the turn of table 0, and makes its first memtable final.
 fn switched<K: Keeper>(table: &PathTable<K, Global>, member: Member<K>) -> Result<Member<K>, Fail>
     requires table { IsOf table.now.table.shared.table_id table.now.size member }
     requires there { 0 < table.now.size.tables }
     requires idle { IsIdle (part_of member) × ((part_of member).sync ≡ None) }
+    requires fresh { (view_of member).trail ≡ [] }
     ensures of { IfOk result (λ m. IsOf table.now.table.shared.table_id table.now.size m) }
     ensures idle { IfOk result (λ m. IsIdle (part_of m) × ((part_of m).sync ≡ None)) }
     ensures waits { IfOk result (λ m. stage_of (part_of m) 0 ≡ Some (Waiting 0)) }
+    ensures issued { IfOk result (λ m. issued_in (view_of m).trail ≡ 0) }
 {
     let mut member = member;
     let first = Table(0);
@@ -83,6 +86,7 @@ fn switched<K: Keeper>(table: &PathTable<K, Global>, member: Member<K>) -> Resul
     if oldest != 0 || newest != 0 {
         return Err(Fail::new("the table was switched"));
     }
+    table.clear_place(&mut member, first, 1);
     table.open_memtable(&mut member, first, 1);
     table.mark_memtable(&mut member, first, 0);
     let key = table.look_marked(&mut member, first, 0);
@@ -91,7 +95,8 @@ fn switched<K: Keeper>(table: &PathTable<K, Global>, member: Member<K>) -> Resul
     Ok(member)
 }
 
-// The same with the Sync turn: the memtable waits for its barrier, of the first group.
+// The same with the Sync turn: the memtable waits for its barrier, of the first group, and there is
+// room for the next one.
 pub(crate) fn waiting<K: Keeper>(
     table: &PathTable<K, Global>,
     member: Member<K>,
@@ -99,9 +104,12 @@ pub(crate) fn waiting<K: Keeper>(
     requires table { IsOf table.now.table.shared.table_id table.now.size member }
     requires there { 0 < table.now.size.tables }
     requires idle { IsIdle (part_of member) × ((part_of member).sync ≡ None) }
+    requires fresh { (view_of member).trail ≡ [] }
     ensures of { IfOk result (λ m. IsOf table.now.table.shared.table_id table.now.size m) }
     ensures holds { IfOk result (λ m. Holds Rest (view_of m) × TurnSaw Write (part_of m) 0) }
     ensures waits { IfOk result (λ m. HasWaiting (part_of m)) }
+    ensures room { IfOk result (λ m. (h : ℕ) × TurnOld Write (part_of m) h × (1 ≤ h + 31)) }
+    ensures issued { IfOk result (λ m. issued_in (view_of m).trail < most_issued) }
 {
     let mut member = switched(table, member)?;
     if table.take_sync(&mut member) != 0 {
@@ -110,6 +118,7 @@ pub(crate) fn waiting<K: Keeper>(
     if table.seek_current(&mut member, Order::Write) != 0 {
         return Err(Fail::new("a group was opened"));
     }
+    let _oldest = table.seek_oldest(&mut member, Order::Write);
     Ok(member)
 }
 
@@ -140,7 +149,10 @@ fn the_oldest_group_moves_on(rt: HostRuntime) -> Result<(), Fail> {
     let wanted = (
         0,
         Advance::Moved(1),
-        Advance::Running { group: 1, count: 0 },
+        Advance::Running {
+            group: 1,
+            count: ONE_GROUP,
+        },
     );
     assert_eq!(&rt; (found, moved, runs), wanted);
     Ok(())

@@ -5,6 +5,7 @@ ghost use Rattle.clog_mutation.specs.declared.mutation.Mutation.{Mutation};
 ghost use Rattle.path_table.specs.Members.{IsOf};
 ghost use Rattle.write_path.specs.Writes.{IsPrepared};
 
+use crate::issuing::may_issue;
 use crate::turns::two_seats;
 use clog_base::{Key, Position, Sizes, Writer};
 use clog_io::{Gate, OpenGate, Point};
@@ -88,8 +89,11 @@ fn commit_twice<R: Wait>(
     let two = prepared(alloc, sizes, 2, payload)?;
     let (path, seat) = one_seat(alloc, sizes, mode)?;
     let gate = OpenGate::new();
+    may_issue(&seat)?;
     let (seat, first) = path.commit(rt, alloc, seat, one, &gate);
+    may_issue(&seat)?;
     let (seat, second) = path.commit(rt, alloc, seat, two, &gate);
+    may_issue(&seat)?;
     let (_seat, answer) = path.sync(rt, alloc, seat);
     Ok((first, second, answer))
 }
@@ -225,7 +229,9 @@ fn commit_by_two<R: Wait, G: Gate>(
     let second = prepared(alloc, sizes, 2, payload)?;
     let keeper = ListKeeper::new(alloc, sizes, 7);
     let (path, zero, one) = two_seats(alloc, keeper, sizes)?;
+    may_issue(&zero)?;
     let (_zero, first) = path.commit(rt, alloc, zero, first, zero_gate);
+    may_issue(&one)?;
     let (_one, second) = path.commit(rt, alloc, one, second, one_gate);
     Ok((first, second))
 }

@@ -5,6 +5,7 @@ ghost use Rattle.std.specs.Prelude.{◌≡◌, true, IfOk, IsSome};
 ghost use Rattle.path_table.specs.Members.{IsOf};
 
 use crate::commits::{DELETION, place, place_of, prepared};
+use crate::issuing::may_issue;
 use crate::rolling::write_of;
 use clog_base::{Key, Position, Sizes, Table};
 use clog_cells::CellMap;
@@ -143,9 +144,13 @@ fn flush_thrice<R: Wait>(rt: &R, alloc: Global, refusals: u32) -> Result<[Flush;
     let one = prepared(alloc, sizes, 1, DELETION)?;
     let (path, seat) = one_filing(alloc, sizes, refusals)?;
     let gate = OpenGate::new();
+    may_issue(&seat)?;
     let (seat, _commit) = path.commit(rt, alloc, seat, one, &gate);
+    may_issue(&seat)?;
     let (seat, first) = path.flush(rt, alloc, seat, Table(0));
+    may_issue(&seat)?;
     let (seat, second) = path.flush(rt, alloc, seat, Table(0));
+    may_issue(&seat)?;
     let (_seat, third) = path.flush(rt, alloc, seat, Table(0));
     Ok([first, second, third])
 }
@@ -179,9 +184,13 @@ fn flush_segments<R: Wait>(rt: &R, alloc: Global) -> Result<Flush, Fail> {
     };
     let (path, seat) = one_filing(alloc, sizes, 0)?;
     let gate = OpenGate::new();
+    may_issue(&seat)?;
     let (seat, _one) = path.commit(rt, alloc, seat, write_of(alloc, sizes, 1, 2048)?, &gate);
+    may_issue(&seat)?;
     let (seat, _two) = path.commit(rt, alloc, seat, write_of(alloc, sizes, 2, 2048)?, &gate);
+    may_issue(&seat)?;
     let (seat, _three) = path.commit(rt, alloc, seat, write_of(alloc, sizes, 3, 2048)?, &gate);
+    may_issue(&seat)?;
     let (_seat, answer) = path.flush(rt, alloc, seat, Table(0));
     Ok(answer)
 }
@@ -206,8 +215,10 @@ fn flush_beside<R: Wait>(rt: &R, alloc: Global) -> Result<(Flush, Flush), Fail> 
     let Ok(held) = path.try_turn(zero, Turn::Flush(Table(3))) else {
         return Err(Fail::new("the turn is taken"));
     };
+    may_issue(&one)?;
     let (one, busy) = path.flush(rt, alloc, one, Table(3));
     let _zero = path.give(held);
+    may_issue(&one)?;
     let (_one, free) = path.flush(rt, alloc, one, Table(3));
     Ok((busy, free))
 }

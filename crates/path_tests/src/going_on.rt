@@ -1,7 +1,7 @@
 //! A flush and a write that began before the flush's barrier, in two threads: the write goes on
 //! above the flush's bound, the flush waits until it has ended, and only the next flush's file has
 //! it.
-ghost use Rattle.std.specs.Prelude.{◌≡◌, ◌<◌, true, IfOk};
+ghost use Rattle.std.specs.Prelude.{◌^◌, ◌≡◌, ◌<◌, true, IfOk};
 ghost use Rattle.clog_mutation.specs.declared.mutation.Mutation.{Mutation};
 ghost use Rattle.path_table.specs.Members.{IsOf};
 ghost use Rattle.write_path.specs.Writes.{IsPrepared};
@@ -9,6 +9,7 @@ ghost use Rattle.write_path.specs.Writes.{IsPrepared};
 use crate::above::{Late, write_above};
 use crate::commits::{DELETION, place, prepared};
 use crate::flushes::{Unwilling, filing, flushed};
+use crate::issuing::may_issue;
 use clog_base::{Sizes, Table};
 use clog_io::OpenGate;
 use path_core::Keeper;
@@ -25,13 +26,15 @@ fn flush_twice<R: Wait, K: Keeper>(
     alloc: Global,
     path: &WritePath<K, Global>,
     seat: PathSeat<K>,
-) -> [Flush; 2]
+) -> Result<[Flush; 2], Fail>
     requires table { IsOf path.now.table.table.shared.table_id path.now.table.size seat.member }
     requires files { (0 < path.now.table.size.tables) × (path.now.table.size.files ≡ true) }
 {
+    may_issue(&seat)?;
     let (seat, first) = path.flush(rt, alloc, seat, Table(0));
+    may_issue(&seat)?;
     let (_seat, second) = path.flush(rt, alloc, seat, Table(0));
-    [first, second]
+    Ok([first, second])
 }
 
 // A path whose memtables may go to table files, and its three seats.
@@ -68,7 +71,7 @@ fn three_filing(
 fn begun<K: Keeper>(path: &WritePath<K, Global>, seat: PathSeat<K>) -> Result<Appending<K>, Fail>
     requires { IsOf path.now.table.table.shared.table_id path.now.table.size seat.member }
     ensures { IfOk result (λ a. IsOf path.now.table.table.shared.table_id path.now.table.size
-        a.member × (a.writing < 65536) × (a.group < 65536)) }
+        a.member × (a.writing < 2 ^ 47) × (a.group < 2 ^ 47)) }
 {
     let Ok(begun) = path.try_start(seat) else {
         return Err(Fail::new("it did not start"));
@@ -91,9 +94,10 @@ fn flush_beside_write<R: Threads + Wait + Sync>(
     let write = prepared(alloc, sizes, 2, DELETION)?;
     let (path, zero, one, two) = three_filing(alloc, sizes)?;
     let path = &path;
+    may_issue(&zero)?;
     let (zero, _commit) = path.commit(rt, alloc, zero, early, &OpenGate::new());
     let one = begun(path, one)?;
-    Ok(thread::join(
+    let (files, late) = thread::join(
         rt,
         ||
             requires { IsOf path.now.table.table.shared.table_id path.now.table.size zero.member
@@ -102,12 +106,13 @@ fn flush_beside_write<R: Threads + Wait + Sync>(
         ||
             requires { IsOf path.now.table.table.shared.table_id path.now.table.size one.member
                 × IsOf path.now.table.table.shared.table_id path.now.table.size two.member
-                × (one.writing < 65536) × (one.group < 65536)
+                × (one.writing < 2 ^ 47) × (one.group < 2 ^ 47)
                 × ((m : Mutation) × IsPrepared sizes 2 m write)
                 × (sizes.tables ≡ 16) × (sizes.tables ≡ path.now.table.size.tables)
                 × (sizes.capacity ≡ path.now.table.size.capacity) }
         { write_above(rt, path, sizes, one, write, two) },
-    ))
+    );
+    Ok((files?, late))
 }
 
 #[test]

@@ -1,4 +1,5 @@
 //! Operations that register by a look from before a barrier: between its steps, and behind them.
+ghost use Rattle.op_core.specs.CountWords.{number_in};
 ghost use Rattle.std.specs.Prelude.{◌≡◌, ◌<◌, ◌^◌, Some, IfOk};
 ghost use Rattle.op_core.specs.declared.count.Order.TheVariants.{Write};
 ghost use Rattle.path_core.specs.Parts.{found_of};
@@ -16,7 +17,7 @@ use std::test::*;
 fn look_twice<K: Keeper>(table: &PathTable<K, Global>, seat: PathSeat<K>) -> (PathSeat<K>, u64, u64)
     requires { IsOf table.now.table.shared.table_id table.now.size seat.member }
     ensures same { IsOf table.now.table.shared.table_id table.now.size result.0.member }
-    ensures group { (result.1 < 65536)
+    ensures group { (result.1 < 2 ^ 47)
         × ((found_of Write (part_of result.0.member)).current ≡ Some result.1) }
 {
     let PathSeat { mut member } = seat;
@@ -32,7 +33,7 @@ fn register_late(alloc: Global) -> Result<(u64, u64, Advance, Advance), Fail> {
     let zero = table.seat(&mut opener);
     let member = table.seat(&mut opener);
     let (seat, group, looked) = look_twice(&table, PathSeat { member });
-    if looked != 0 {
+    if looked != 0 || group != 0 {
         return Err(Fail::new("the table is in use"));
     }
     let mut zero = waiting(&table, zero)?;
@@ -68,7 +69,7 @@ fn refuse_register<K: Keeper>(
     looked: u64,
 ) -> Result<(PathSeat<K>, u64), Fail>
     requires table { IsOf table.now.table.shared.table_id table.now.size seat.member }
-    requires group { (group < 65536) × (looked < 2 ^ 63)
+    requires group { (group < 2 ^ 47) × (number_in looked ≡ group) × (looked < 2 ^ 63)
         × ((found_of Write (part_of seat.member)).current ≡ Some group) }
     ensures { IfOk result (λ r. IsOf table.now.table.shared.table_id table.now.size r.0.member) }
 {
@@ -87,7 +88,7 @@ fn register_stale(alloc: Global) -> Result<(u64, u64), Fail> {
     let zero = table.seat(&mut opener);
     let member = table.seat(&mut opener);
     let (seat, group, looked) = look_twice(&table, PathSeat { member });
-    if looked != 0 {
+    if looked != 0 || group != 0 {
         return Err(Fail::new("the table is in use"));
     }
     let mut zero = waiting(&table, zero)?;

@@ -16,6 +16,8 @@ mod flushes;
 #[cfg(test)]
 mod going_on;
 #[cfg(test)]
+mod issuing;
+#[cfg(test)]
 mod late;
 #[cfg(test)]
 mod machine;
@@ -25,8 +27,6 @@ mod orders;
 mod refusing;
 #[cfg(test)]
 mod rolling;
-#[cfg(test)]
-mod rows;
 #[cfg(test)]
 mod stopping;
 #[cfg(test)]

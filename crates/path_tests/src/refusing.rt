@@ -4,6 +4,7 @@ ghost use Rattle.std.specs.Prelude.{◌≡◌, IfOk};
 ghost use Rattle.path_table.specs.Members.{IsOf};
 
 use crate::commits::{DELETION, done, durable, place, prepared, receipt};
+use crate::issuing::may_issue;
 use clog_base::{Key, Sizes, Table};
 use clog_cells::CellMap;
 use clog_io::OpenGate;
@@ -86,8 +87,11 @@ fn commit_sync_commit<R: Wait>(
     let two = prepared(alloc, sizes, 2, DELETION)?;
     let (path, seat) = one_refused(alloc, sizes)?;
     let gate = OpenGate::new();
+    may_issue(&seat)?;
     let (seat, first) = path.commit(rt, alloc, seat, one, &gate);
+    may_issue(&seat)?;
     let (seat, answer) = path.sync(rt, alloc, seat);
+    may_issue(&seat)?;
     let (_seat, second) = path.commit(rt, alloc, seat, two, &gate);
     Ok((first, answer, second))
 }

@@ -4,6 +4,7 @@ ghost use Rattle.clog_mutation.specs.declared.mutation.Mutation.{Mutation};
 ghost use Rattle.write_path.specs.Writes.{IsPrepared};
 
 use crate::commits::{done, logged, one_seat, place, prepared};
+use crate::issuing::may_issue;
 use clog_base::{Position, Sizes};
 use clog_io::OpenGate;
 use std::alloc::Global;
@@ -54,9 +55,13 @@ fn commit_sync_commit<R: Wait>(
     let two = write_of(alloc, sizes, 2, second)?;
     let three = write_of(alloc, sizes, 3, third)?;
     let (path, seat) = one_seat(alloc, sizes, SyncCore::periodic(10))?;
+    may_issue(&seat)?;
     let (seat, _answer) = path.commit(rt, alloc, seat, one, &OpenGate::new());
+    may_issue(&seat)?;
     let (seat, behind) = path.commit(rt, alloc, seat, two, &OpenGate::new());
+    may_issue(&seat)?;
     let (seat, answer) = path.sync(rt, alloc, seat);
+    may_issue(&seat)?;
     let (_seat, last) = path.commit(rt, alloc, seat, three, &OpenGate::new());
     Ok((behind, answer, last))
 }

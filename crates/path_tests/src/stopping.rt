@@ -4,6 +4,7 @@ ghost use Rattle.std.specs.Prelude.{cond};
 ghost use Rattle.path_core.specs.Keeper.{IsFresh};
 
 use crate::commits::{DELETION, prepared, receipt};
+use crate::issuing::may_issue;
 use crate::refusing::unsynced;
 use crate::turns::two_seats;
 use clog_base::{Key, Sizes, Table};
@@ -72,9 +73,13 @@ fn commit_by_both<R: Wait>(
     let third = prepared(alloc, sizes, 3, DELETION)?;
     let (path, zero, one) = two_seats(alloc, new_stopping(alloc, sizes), sizes)?;
     let gate = OpenGate::new();
+    may_issue(&zero)?;
     let (zero, first) = path.commit(rt, alloc, zero, first, &gate);
+    may_issue(&one)?;
     let (_one, second) = path.commit(rt, alloc, one, second, &gate);
+    may_issue(&zero)?;
     let (zero, answer) = path.sync(rt, alloc, zero);
+    may_issue(&zero)?;
     let (_zero, third) = path.commit(rt, alloc, zero, third, &gate);
     Ok((first, second, answer, third))
 }

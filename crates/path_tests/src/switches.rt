@@ -1,6 +1,7 @@
 //! Switches of a table's memtable: where nothing was written to it, behind a commit, behind one
 //! that was left, and while another seat has the table's turn.
 use crate::commits::{DELETION, logged, one_seat, place, place_of, prepared, receipt};
+use crate::issuing::may_issue;
 use crate::turns::two_seats;
 use clog_base::{Position, Sizes, Table};
 use clog_io::OpenGate;
@@ -35,7 +36,9 @@ fn a_table_that_holds_nothing_is_switched_twice(rt: HostRuntime) -> Result<(), F
         return Err(Fail::new("no sizes"));
     };
     let (path, seat) = one_seat(alloc, sizes, SyncCore::batch())?;
+    may_issue(&seat)?;
     let (seat, first) = path.switch(&rt, alloc, seat, Table(0));
+    may_issue(&seat)?;
     let (_seat, second) = path.switch(&rt, alloc, seat, Table(0));
     assert_eq!(&rt;
         [emptied(first), emptied(second)],
@@ -62,10 +65,15 @@ fn switch_behind<R: Wait>(rt: &R, alloc: Global) -> Result<Answers, Fail> {
     let two = prepared(alloc, sizes, 2, DELETION)?;
     let (path, seat) = one_seat(alloc, sizes, SyncCore::periodic(10))?;
     let gate = OpenGate::new();
+    may_issue(&seat)?;
     let (seat, _commit) = path.commit(rt, alloc, seat, one, &gate);
+    may_issue(&seat)?;
     let (seat, beside) = path.switch(rt, alloc, seat, Table(1));
+    may_issue(&seat)?;
     let (seat, first) = path.switch(rt, alloc, seat, Table(0));
+    may_issue(&seat)?;
     let (seat, commit) = path.commit(rt, alloc, seat, two, &gate);
+    may_issue(&seat)?;
     let (_seat, second) = path.switch(rt, alloc, seat, Table(0));
     Ok(Answers {
         beside,
@@ -95,8 +103,10 @@ fn switch_beside<R: Wait>(rt: &R, alloc: Global) -> Result<(Switch, Switch), Fai
     let Ok(held) = path.try_turn(zero, Turn::Flush(Table(3))) else {
         return Err(Fail::new("the turn is taken"));
     };
+    may_issue(&one)?;
     let (one, busy) = path.switch(rt, alloc, one, Table(3));
     let _zero = path.give(held);
+    may_issue(&one)?;
     let (_one, free) = path.switch(rt, alloc, one, Table(3));
     Ok((busy, free))
 }

@@ -1,5 +1,6 @@
 //! Syncs of a path on which nothing was written.
 use crate::commits::{done, one_seat, place};
+use crate::issuing::may_issue;
 use clog_base::Sizes;
 use std::alloc::Global;
 use std::sync::Wait;
@@ -17,7 +18,9 @@ fn sync_twice<R: Wait>(
         return Err(Fail::new("no sizes"));
     };
     let (path, seat) = one_seat(alloc, sizes, mode)?;
+    may_issue(&seat)?;
     let (seat, first) = path.sync(rt, alloc, seat);
+    may_issue(&seat)?;
     let (_seat, second) = path.sync(rt, alloc, seat);
     Ok((first, second))
 }

@@ -1,6 +1,6 @@
 //! How commits and syncs were answered.
 use anyhow::{Result, bail};
-use write_path::{Commit, Receipt, SyncAnswer, SyncFault};
+use write_path::{Commit, Receipt, SyncAnswer};
 
 /// How a writer's commits and syncs were answered.
 #[derive(Clone, Copy, Debug, PartialEq, Eq)]
@@ -11,9 +11,9 @@ pub struct Answered {
     pub durable: u32,
     /// So many commits found no room in the log.
     pub spent: u32,
-    /// So many syncs wanted a group when all were made. A commit may have waited for one.
-    pub ungrouped: u32,
-    /// So many syncs were refused for another cause.
+    /// So many commits and syncs were not asked for, since the seat had issued too many barriers.
+    pub unasked: u32,
+    /// So many syncs were refused. A commit may have waited for one.
     pub unsynced: u32,
 }
 
@@ -24,7 +24,7 @@ impl Answered {
             logged: 0,
             durable: 0,
             spent: 0,
-            ungrouped: 0,
+            unasked: 0,
             unsynced: 0,
         }
     }
@@ -34,7 +34,7 @@ impl Answered {
         self.logged = self.logged.saturating_add(other.logged);
         self.durable = self.durable.saturating_add(other.durable);
         self.spent = self.spent.saturating_add(other.spent);
-        self.ungrouped = self.ungrouped.saturating_add(other.ungrouped);
+        self.unasked = self.unasked.saturating_add(other.unasked);
         self.unsynced = self.unsynced.saturating_add(other.unsynced);
     }
 
@@ -43,7 +43,6 @@ impl Answered {
         let counter = match commit {
             Commit::Logged(_) => &mut self.logged,
             Commit::Durable(_) => &mut self.durable,
-            Commit::Unsynced(_, SyncFault::Rows(_)) => &mut self.ungrouped,
             Commit::Unsynced(_, _) => &mut self.unsynced,
             Commit::Spent(_, _) => &mut self.spent,
         };
@@ -54,7 +53,6 @@ impl Answered {
     pub fn count_sync(&mut self, answer: &SyncAnswer) {
         let counter = match answer {
             SyncAnswer::Done(_) => return,
-            SyncAnswer::Rows(_) => &mut self.ungrouped,
             SyncAnswer::Stopped { at_open: _, now: _ } | SyncAnswer::OutOfMemory => {
                 &mut self.unsynced
             }
@@ -62,10 +60,18 @@ impl Answered {
         *counter = counter.saturating_add(1);
     }
 
+    /// One commit or sync was not asked for.
+    pub fn count_unasked(&mut self) {
+        self.unasked = self.unasked.saturating_add(1);
+    }
+
     /// Each write found room, and no sync was refused.
     pub fn check(&self) -> Result<()> {
-        if self.ungrouped > 0 {
-            bail!("{} syncs wanted a further group", self.ungrouped);
+        if self.unasked > 0 {
+            bail!(
+                "{} commits and syncs came behind too many barriers",
+                self.unasked
+            );
         }
         if self.unsynced > 0 {
             bail!("{} syncs were refused", self.unsynced);

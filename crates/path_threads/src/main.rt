@@ -48,15 +48,14 @@ use two_commits::print_commits;
 const LINES: u32 = 10_000;
 
 /// How often other threads are let run before a sync in batch mode. The 640,000 commits of 64
-/// writers took some 42,000 syncs so beside other load, of 65,535 that a path has groups for. With
-/// fewer turns few writers have come to wait for the next sync.
+/// writers took some 42,000 syncs so beside other load. With fewer turns few writers have come to
+/// wait for the next sync.
 const TURNS: u8 = 32;
 
 /// The bytes of a segment in memory.
 const SMALL: u32 = 4096;
 
-// A writer's periodic commits. It syncs seldom enough that a path, which has groups for 65,535
-// syncs, has one for each of 64 writers.
+// A writer's periodic commits, of which it has so many synced at once.
 fn periodic(payload: Payload, lines: u32, sync_after: u32) -> Plan {
     Plan {
         mode: SyncCore::periodic(10),

@@ -10,6 +10,7 @@ use clog_io::OpenGate;
 use clog_scan::Found;
 use replay_merge::replay;
 use std::alloc::Global;
+use std::sync::Wait;
 use std::thread::Threads;
 use write_path::Receipt;
 
@@ -68,7 +69,11 @@ pub fn entries_in(
 }
 
 // How many entries a disk is replayed with.
-fn replayed_on<R: Threads + Sync, D: Disk>(rt: &R, alloc: Global, disk: &mut D) -> Result<u64> {
+fn replayed_on<R: Threads + Wait + Sync, D: Disk>(
+    rt: &R,
+    alloc: Global,
+    disk: &mut D,
+) -> Result<u64> {
     match replay(rt, alloc, disk, 1, false, &OpenGate::new()) {
         Ok(restored) => Ok(restored.counts.entries),
         Err(_) => bail!("the disk is not replayed"),
@@ -78,7 +83,7 @@ fn replayed_on<R: Threads + Sync, D: Disk>(rt: &R, alloc: Global, disk: &mut D) 
 /// Reads a disk again: it is replayed with one entry for each receipt, each receipt's position is
 /// the end of one, and they stand in sections without a gap. Answers how many there are; the
 /// receipts are in the order of their positions then.
-pub fn read_again<R: Threads + Sync, D: Disk>(
+pub fn read_again<R: Threads + Wait + Sync, D: Disk>(
     rt: &R,
     alloc: Global,
     disk: &mut D,

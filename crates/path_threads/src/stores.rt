@@ -56,7 +56,7 @@ pub fn run_plain<R: Threads + Wait + Clock + Sync, D: Disk + Send + Drop>(
 
 /// Checks how so many writers were answered and what they made lasting, and reads the store's disk
 /// again. Answers how many entries it has, and gives it back.
-pub fn check_run<R: Threads + Sync, D: Disk + Drop>(
+pub fn check_run<R: Threads + Wait + Sync, D: Disk + Drop>(
     rt: &R,
     alloc: Global,
     ran: &mut Ran,

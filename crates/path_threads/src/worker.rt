@@ -1,12 +1,6 @@
 //! A writer in its thread: it commits the writes of its share, one after another.
 ghost use Rattle.std.specs.Prelude.{◌≡◌, Some};
-ghost use Rattle.path_threads.specs.Crews.{
-  AreWrites,
-  IsSeated,
-  IsSizedAs,
-  IsWrite,
-  number_of,
-};
+ghost use Rattle.path_threads.specs.Crews.{AreWrites, IsSeated, IsSizedAs, IsWrite, number_of};
 
 use crate::answered::{Answered, receipt_of};
 use crate::plan::Plan;
@@ -16,7 +10,7 @@ use path_core::Keeper;
 use std::alloc::Global;
 use std::mem;
 use std::sync::Wait;
-use write_path::{PathSeat, Prepared, Receipt, WritePath};
+use write_path::{MOST_ISSUED, PathSeat, Prepared, Receipt, WritePath};
 
 /// A writer: its seat between two commits, its writes, and how its commits were answered.
 #[derive(Drop)]
@@ -61,6 +55,11 @@ fn commit_write<R: Wait, K: Keeper>(
     ensures number { number_of worker.new ≡ number_of worker.old }
 {
     if let Some(seat) = worker.seat.take() {
+        if seat.issued() > MOST_ISSUED {
+            worker.seat = Some(seat);
+            worker.answered.count_unasked();
+            return;
+        }
         let (seat, commit) = path.commit(rt, alloc, seat, write, &OpenGate::new());
         worker.seat = Some(seat);
         worker.answered.count(&commit);
@@ -82,6 +81,11 @@ fn sync_log<R: Wait, K: Keeper>(
     ensures number { number_of worker.new ≡ number_of worker.old }
 {
     if let Some(seat) = worker.seat.take() {
+        if seat.issued() > MOST_ISSUED {
+            worker.seat = Some(seat);
+            worker.answered.count_unasked();
+            return;
+        }
         let (seat, answer) = path.sync(rt, alloc, seat);
         worker.seat = Some(seat);
         worker.answered.count_sync(&answer);

@@ -2,10 +2,9 @@
 use Rattle.std.proofs.Common.{◌≡◌, ℕ, ◌≤◌, List, map, refl, sym, ap, ◌∙◌, subst, arith}
 use Rattle.std.specs.List.{Contains}
 use Rattle.clog_base.specs.Positions.{position_of}
-use Rattle.op_core.specs.declared.count.Order.TheVariants.{Append}
 use Rattle.path_core.specs.declared.event.Cursor.TheVariants.{Synced, Stopped as StoppedCursor}
 use Rattle.path_core.specs.declared.event.Event.{Event}
-use Rattle.path_core.specs.declared.event.Place.TheVariants.{Current, CursorWord}
+use Rattle.path_core.specs.declared.event.Place.TheVariants.{CursorWord}
 use Rattle.path_core.specs.declared.note.EntryNote.{EntryNote}
 use Rattle.path_rule.specs.declared.answer.SyncAnswer.TheVariants.{Done}
 use Rattle.path_rule.specs.declared.view.OwnStep.{OwnStep}
@@ -17,7 +16,7 @@ use Rattle.sync_core.specs.declared.SyncCore.TheVariants.{Batch}
 use Rattle.write_path.specs.declared.commit.Commit.{Commit}
 use Rattle.write_path.specs.declared.commit.Commit.TheVariants.{Logged, Durable, Unsynced, Spent}
 use Rattle.write_path.specs.declared.commit.Receipt.{Receipt}
-use Rattle.write_path.specs.declared.commit.SyncFault.TheVariants.{Stopped, OutOfMemory, Rows}
+use Rattle.write_path.specs.declared.commit.SyncFault.TheVariants.{Stopped, OutOfMemory}
 use Rattle.write_path.specs.declared.prepared.Prepared.{Prepared}
 use Rattle.write_path.specs.Commits.{IsLogged}
 use Rattle.path_flush.specs.OwnWrites.{writes_of}
@@ -39,7 +38,7 @@ reached w s start end tables before p v L covers =
     (0, omega arith, refl)))
 
 -- a trail grows by a sync's steps
-by_rounds : (w : ℕ) (puts : List Event) (v after : View) → RoundSteps w puts v after
+by_rounds : {n : ℕ} (w : ℕ) (puts : List Event) (v after : View) → RoundSteps w n puts v after
     → GrowsUnretired v.trail after.trail
 by_rounds w puts v after S =
     let newer : HasGrown v.trail after.trail = record { newer = S.steps; is = S.trail } in
@@ -119,21 +118,6 @@ acknowledged size w before p r (Unsynced x OutOfMemory) v after H A =
           (by_rounds w puts v after S.answers.steps) A.0,
       tt,
       tt,
-    )
-acknowledged size w before p r (Unsynced x (Rows n)) v after H A =
-    let S = A.1 in let m = H.logged.listed.note in let puts = S.answers.puts in
-    let F = S.answers.now in (
-      stands size.base w before p r x v after H S.list
-          (stays_last w m puts v after S.answers.steps H.logged.listed.last)
-          (by_rounds w puts v after S.answers.steps) A.0,
-      S.answers.is.0,
-      (
-        F.0,
-        F.1,
-        found_in w m puts v after S.answers.steps H.logged.listed.last (Current Append) F.0 F.2,
-        found_in w m puts v after S.answers.steps H.logged.listed.last (CursorWord StoppedCursor) 0
-            F.3,
-      ),
     )
 acknowledged size w before p r (Spent back key) v after H A = absurd A
 

@@ -1,26 +1,6 @@
 -- What an answer of a flush comes to when the path is closed.
-use Rattle.std.proofs.Common.{
-  ℕ,
-  suc,
-  ◌≤◌,
-  List,
-  [],
-  ◌∷◌,
-  ◌++◌,
-  Option,
-  Some,
-  None,
-  IsTrue,
-  inl,
-  inr,
-  refl,
-  sym,
-  ap,
-  ◌∙◌,
-  subst,
-  ⊎_elim,
-  arith,
-}
+use Rattle.std.proofs.Common.{ℕ, suc, ◌≤◌, List, [], ◌∷◌, ◌++◌, Option, Some, None, IsTrue, inl}
+use Rattle.std.proofs.Common.{inr, refl, sym, ap, ◌∙◌, subst, ⊎_elim, arith}
 use Rattle.std.specs.List.{Contains}
 use Rattle.clog_base.specs.declared.cell.Table.{Table}
 use Rattle.clog_base.specs.declared.position.Key.{Key}
@@ -39,14 +19,8 @@ use Rattle.path_rule.proofs.seats.Answering.{found_before}
 use Rattle.path_table.specs.declared.trying.PathSeat.{PathSeat}
 use Rattle.path_table.specs.Members.{view_of}
 use Rattle.path_flush.specs.declared.flush_answer.Flush.{Flush}
-use Rattle.path_flush.specs.declared.flush_answer.Flush.TheVariants.{
-  Flushed,
-  Empty,
-  Busy,
-  Rows,
-  Stopped,
-  OutOfMemory,
-}
+use Rattle.path_flush.specs.declared.flush_answer.Flush.TheVariants.{Flushed, Empty, Busy, Stopped}
+use Rattle.path_flush.specs.declared.flush_answer.Flush.TheVariants.{OutOfMemory}
 use Rattle.write_path.specs.ClosedFiles.{HasRetired}
 use Rattle.write_path.specs.Closed.{IsOutcome}
 use Rattle.path_flush.specs.OwnWrites.{writes_of}
@@ -65,7 +39,7 @@ final_newer t m key (s ∷ ss) older F =
     ⊎_elim (λ now. inl now) (λ rest. inr (final_newer t m key ss older rest)) F
 
 -- what was made final in a call was found so
-final_in : (w t m key : ℕ) (v after : View) (S : FlushSteps w t v after)
+final_in : {n : ℕ} (w t m key : ℕ) (v after : View) (S : FlushSteps w t n v after)
     → Finalises w t m key S.steps → FindsFinal t m key after.trail
 final_in w t m key v after S F = subst (λ (l : List OwnStep). FindsFinal t m key l) (sym S.trail)
     (final_newer t m key S.steps v.trail (final_finds w t m key S.steps F))
@@ -85,8 +59,8 @@ least_in w t m gave v after R =
     (found_before (CursorWord (OldestLive t)) (suc m) R.put.newer
     (retiring w t.0 m gave ∷ R.before.trail) (inl (refl, refl)))
 
-is_flushed : (w : ℕ) (t : Table) (m key : ℕ) (gave : Option ℕ) (v after : View)
-    (S : FlushSteps w t.0 v after) → Finalises w t.0 m key S.steps → Retires w t.0 m gave v after
+is_flushed : {n : ℕ} (w : ℕ) (t : Table) (m key : ℕ) (gave : Option ℕ) (v after : View)
+    (S : FlushSteps w t.0 n v after) → Finalises w t.0 m key S.steps → Retires w t.0 m gave v after
     → HasRetired t key after.trail
 is_flushed w t m key gave v after S F R = record {
   memtable = m;
@@ -105,7 +79,6 @@ by_answer w t (Empty upper) key v after up F =
     subst (λ (k : ℕ). HasRetired t k after.trail) up
     (is_flushed w t F.is.0 upper.0 None v after F.steps F.is.1.set F.is.2.0)
 by_answer w t (Busy found) key v after up F = absurd up
-by_answer w t (Rows row made) key v after up F = absurd up
 by_answer w t (Stopped at_open now) key v after up F = absurd up
 by_answer w t OutOfMemory key v after up F = absurd up
 

@@ -3,32 +3,15 @@ use Rattle.std.proofs.Common.{◌≡◌, ℕ, List, [], ◌∷◌, Option, sym, 
 use Rattle.clog_base.specs.declared.cell.Table.{Table}
 use Rattle.path_core.specs.declared.event.Cursor.TheVariants.{Synced, OldestLive, Stopped}
 use Rattle.path_core.specs.declared.event.Event.{Event}
-use Rattle.path_core.specs.declared.event.Event.TheVariants.{
-  Look,
-  Register,
-  Close,
-  OpenGroup,
-  MoveCurrent,
-  Expire,
-  Advance,
-  Claim,
-  Switch,
-  Raise,
-  Finalise,
-  TakeTurn,
-  GiveTurn,
-  Put,
-}
+use Rattle.path_core.specs.declared.event.Event.TheVariants.{Look, Register, Close, OpenGroup}
+use Rattle.path_core.specs.declared.event.Event.TheVariants.{MoveCurrent, Expire, Advance, Claim}
+use Rattle.path_core.specs.declared.event.Event.TheVariants.{Switch, Raise, Finalise, TakeTurn}
+use Rattle.path_core.specs.declared.event.Event.TheVariants.{GiveTurn, Put}
 use Rattle.path_rule.specs.declared.view.OwnStep.{OwnStep}
 use Rattle.path_rule.specs.declared.view.View.{View}
 use Rattle.path_rule.specs.FindsBounds.{Retires, RetiresBy}
-use Rattle.path_flush.specs.FlushSteps.{
-  AreFlushSteps,
-  Finalises,
-  FinalisesBy,
-  FlushSteps,
-  IsFlushStep,
-}
+use Rattle.path_flush.specs.FlushSteps.{AreFlushSteps, Finalises, FinalisesBy, FlushSteps}
+use Rattle.path_flush.specs.FlushSteps.{IsFlushStep}
 
 -- ---- memtables that were made final
 
@@ -55,7 +38,7 @@ final_own w t u m key [] A F = absurd F
 final_own w t u m key (s ∷ ss) A F = ⊎_elim (λ now. final_by w t u m key s.event s.found A.0 now)
     (λ older. final_own w t u m key ss A.1 older) F
 
-pub finalises_own : (w t u m key : ℕ) (v after : View) (S : FlushSteps w t v after)
+pub finalises_own : {n : ℕ} (w t u m key : ℕ) (v after : View) (S : FlushSteps w t n v after)
     → Finalises w u m key S.steps → u ≡ t
 finalises_own w t u m key v after S F = final_own w t u m key S.steps S.are F
 
@@ -91,6 +74,6 @@ retired_own w t u m gave (s ∷ ss) A R =
     ⊎_elim (λ now. retired_by w t u m gave s.filed s.event A.0 now)
     (λ older. retired_own w t u m gave ss A.1 older) R
 
-pub retires_own : (w t : ℕ) (u : Table) (m : ℕ) (gave : Option ℕ) (v after : View)
-    (S : FlushSteps w t v after) → Retires u m gave S.steps → u.0 ≡ t
+pub retires_own : {n : ℕ} (w t : ℕ) (u : Table) (m : ℕ) (gave : Option ℕ) (v after : View)
+    (S : FlushSteps w t n v after) → Retires u m gave S.steps → u.0 ≡ t
 retires_own w t u m gave v after S R = retired_own w t u m gave S.steps S.are R

@@ -1,23 +1,6 @@
 -- What a seat knows to be flushed lies in the keeper's files when the path is closed.
-use Rattle.std.proofs.Common.{
-  ◌≡◌,
-  ℕ,
-  zero,
-  suc,
-  ◌<◌,
-  ◌≤◌,
-  List,
-  [],
-  ◌∷◌,
-  ◌++◌,
-  IsTrue,
-  refl,
-  sym,
-  ap,
-  subst,
-  ⊎_elim,
-  arith,
-}
+use Rattle.std.proofs.Common.{◌≡◌, ℕ, zero, suc, ◌<◌, ◌≤◌, List, [], ◌∷◌, ◌++◌, IsTrue, refl, sym}
+use Rattle.std.proofs.Common.{ap, subst, ⊎_elim, arith}
 use Rattle.std.specs.List.{Contains}
 use Rattle.std.proofs.lemmas.List.Elements.{All-contains}
 use Rattle.std.proofs.lemmas.List.Sorted.{Contains-permutation}
@@ -92,7 +75,8 @@ row_flushed key = record {
 row_table : (t m key to : ℕ) → FindsFinal t m to (flushed_at key) → t ≡ 0
 row_table t m key to F = ⊎_elim (λ no. absurd no) (λ a. ⊎_elim (λ at. sym at.0)
     (λ b. ⊎_elim (λ no. absurd no) (λ c. ⊎_elim (λ no. absurd no)
-    (λ d. ⊎_elim (λ no. absurd no) (λ e. ⊎_elim (λ no. absurd no) (λ no. absurd no) e) d) c) b) a) F
+    (λ d. ⊎_elim (λ no. absurd no) (λ e. ⊎_elim (λ no. absurd no) (λ f. ⊎_elim (λ no. absurd no)
+    (λ no. absurd no) f) e) d) c) b) a) F
 
 pub row_no_other : (key to : ℕ) → ¬ HasRetired (record { 0 = 1 }) to (flushed_at key)
 row_no_other key to F = absurd (let is = row_table 1 F.memtable key to F.final in omega arith)
@@ -100,8 +84,8 @@ row_no_other key to F = absurd (let is = row_table 1 F.memtable key to F.final i
 -- nor did a switch alone retire one
 pub row_switched : (t : Table) (key to : ℕ) → ¬ HasRetired t to (switched_at 0 key)
 row_switched t key to F = ⊎_elim (λ no. no) (λ a. ⊎_elim (λ no. no) (λ b. ⊎_elim
-    (λ at. log_no at.0) (λ c. ⊎_elim (λ no. no) (λ d. ⊎_elim (λ no. no) (λ no. no) d) c) b) a)
-    F.found
+    (λ at. log_no at.0) (λ c. ⊎_elim (λ no. no) (λ d. ⊎_elim (λ no. no)
+    (λ e. ⊎_elim (λ no. no) (λ no. no) e) d) c) b) a) F.found
   where
     log_no : Log ≡ CursorWord (OldestLive t) → ⊥
     log_no is = absurd (let q : Log ≡ CursorWord (OldestLive t) = is in cc)

@@ -1,22 +1,6 @@
 -- A seat's trail grows from step to step, and over calls one behind another.
-use Rattle.std.proofs.Common.{
-  ◌≡◌,
-  ℕ,
-  ◌+◌,
-  ◌≤◌,
-  List,
-  [],
-  ◌∷◌,
-  ◌++◌,
-  length,
-  refl,
-  sym,
-  ap,
-  ◌∙◌,
-  ⊎_elim,
-  arith,
-  None,
-}
+use Rattle.std.proofs.Common.{◌≡◌, ℕ, ◌+◌, ◌≤◌, List, [], ◌∷◌, ◌++◌, length, refl, sym, ap, ◌∙◌}
+use Rattle.std.proofs.Common.{⊎_elim, arith, None}
 use Rattle.std.proofs.lemmas.List.{append_assoc, length-append}
 use Rattle.atomic_table.specs.Seated.{TableId}
 use Rattle.op_core.specs.declared.count.Order.{Order}
@@ -24,27 +8,17 @@ use Rattle.op_core.specs.declared.count.Order.TheVariants.{Write, Append}
 use Rattle.path_core.specs.declared.event.Carried.TheVariants.{Nothing, Applied}
 use Rattle.path_core.specs.declared.event.ClaimKind.TheVariants.{Entry}
 use Rattle.path_core.specs.declared.event.Event.{Event}
-use Rattle.path_core.specs.declared.event.Event.TheVariants.{
-  Look,
-  Register,
-  Close,
-  OpenGroup,
-  MoveCurrent,
-  Expire,
-  Advance,
-  Claim,
-  Switch,
-  Raise,
-  Finalise,
-  TakeTurn,
-  GiveTurn,
-  Put,
-}
+use Rattle.path_core.specs.declared.event.Event.TheVariants.{Look, Register, Close, OpenGroup}
+use Rattle.path_core.specs.declared.event.Event.TheVariants.{MoveCurrent, Expire, Advance, Claim}
+use Rattle.path_core.specs.declared.event.Event.TheVariants.{Switch, Raise, Finalise, TakeTurn}
+use Rattle.path_core.specs.declared.event.Event.TheVariants.{GiveTurn, Put}
 use Rattle.path_core.specs.declared.event.Place.TheVariants.{Count, Current, Log}
+use Rattle.op_core.specs.CountWords.{number_in}
 use Rattle.path_rule.specs.declared.view.OwnStep.{OwnStep}
 use Rattle.path_rule.specs.declared.view.PathSize.{PathSize}
 use Rattle.path_rule.specs.declared.view.View.{View}
 use Rattle.path_rule.specs.Calls.{Did, Started}
+use Rattle.path_rule.specs.Issued.{issued_in}
 use Rattle.path_table.specs.declared.table.Member.{Member}
 use Rattle.write_path.specs.declared.deposited.Deposited.{Deposited}
 use Rattle.write_path.specs.Claims.{IsClaim, IsAgain, IsSpent}
@@ -144,55 +118,61 @@ module _ {K : Type 0} (id : TableId) (size : PathSize) (m m' : Member K)
     (stays : Stays id size m m') where
   by : (u : View) (newer : List OwnStep) → m'.seat.me.0 ≡ u → u.trail ≡ newer ++ m.seat.me.0.trail
       → writes_of u.trail ≡ writes_of m.seat.me.0.trail → RetiresNone newer
-      → SwitchesNone newer → KeepsMemtables id size m m'
-  by u newer view trail list kept leaves = (
+      → SwitchesNone newer → issued_in u.trail ≡ issued_in m.seat.me.0.trail
+      → KeepsMemtables id size m m'
+  by u newer view trail list kept leaves issues = (
     stays,
     ap (λ (v : View). writes_of v.trail) view ∙ list,
     record { newer = newer; is = ap (λ (v : View). v.trail) view ∙ trail },
     kept,
     leaves,
+    ap (λ (v : View). issued_in v.trail) view ∙ issues,
   )
 
-  -- a look at the current group of an order and one at its count
+  -- a look at the current group of an order and one at the word of its count
   abbrev looks : Order → ℕ → ℕ → List OwnStep
-  looks o g k = step (Look m.number (Count o g)) k ∷ step (Look m.number (Current o)) g ∷ []
+  looks o g k = step (Look m.number (Count o (number_in k))) k ∷ step (Look m.number (Current o)) g
+      ∷ []
 
   pub started : (g : ℕ) → Started m.seat.me.0 m.number Write g m'.seat.me.0
       → KeepsMemtables id size m m'
   started g S = by _ (step (Register m.number Write g) (S.looked + 1) ∷ looks Write g S.looked)
-      S.did.view refl refl (tt, (tt, (tt, tt))) (tt, (tt, (tt, tt)))
+      S.did.view refl refl (tt, (tt, (tt, tt))) (tt, (tt, (tt, tt))) refl
 
   pub joined : (g : ℕ) → Joined m.seat.me.0 m.number g m'.seat.me.0 → KeepsMemtables id size m m'
   joined g J = by _ (step (Register m.number Append g) (J.looked + 1) ∷ looks Append g J.looked)
-      J.did.view refl refl (tt, (tt, (tt, tt))) (tt, (tt, (tt, tt)))
+      J.did.view refl refl (tt, (tt, (tt, tt))) (tt, (tt, (tt, tt))) refl
 
   pub only_looked : (o : Order) (k n : ℕ)
       → OnlyLooked o m.seat.me.0 m.number k n m'.seat.me.0 → KeepsMemtables id size m m'
   only_looked o k n L = let g = L.refused.group in ⊎_elim
-      (λ once. by _ (looks o g k) once refl refl (tt, (tt, tt)) (tt, (tt, tt)))
-      (λ again. by _ (step (Look m.number (Count o g)) n ∷ looks o g k) again refl refl
-      (tt, (tt, (tt, tt))) (tt, (tt, (tt, tt))))
+      (λ once. by _ (looks o g k) once refl refl (tt, (tt, tt)) (tt, (tt, tt)) refl)
+      (λ again. by _ (step (Look m.number (Count o (number_in n))) n ∷ looks o g k) again refl refl
+      (tt, (tt, (tt, tt))) (tt, (tt, (tt, tt))) refl)
       L.refused.view
 
   pub claimed : (to : ℕ) → IsClaim m.seat.me.0 m.number to m'.seat.me.0
       → KeepsMemtables id size m m'
   claimed to C = by _ (step (Claim m.number (record { 0 = C.looked }) (record { 0 = to }) Entry) to
       ∷ step (Look m.number Log) C.looked ∷ []) C.did.view refl refl (tt, (tt, tt)) (tt, (tt, tt))
+      refl
 
   pub again : (bytes k n : ℕ) → IsAgain size m.seat.me.0 m.number bytes k n m'.seat.me.0
       → KeepsMemtables id size m m'
   again bytes k n A = by _ (step (Look m.number Log) n ∷ step (Look m.number Log) k ∷ []) A.view
-      refl refl (tt, (tt, tt)) (tt, (tt, tt))
+      refl refl (tt, (tt, tt)) (tt, (tt, tt)) refl
 
   pub spent : (bytes key : ℕ) → IsSpent size m.seat.me.0 m.number bytes key m'.seat.me.0
       → KeepsMemtables id size m m'
   spent bytes key S = by _ (step (Look m.number Log) key ∷ []) S.view refl refl (tt, tt) (tt, tt)
+      refl
 
   -- a seat that leaves an order with nothing
   pub left : (o : Order) (g n : ℕ)
       → Did m.seat.me.0 m.number (Close m.number o g Nothing) n m'.seat.me.0
       → KeepsMemtables id size m m'
   left o g n D = by _ (step (Close m.number o g Nothing) n ∷ []) D.view refl refl (tt, tt) (tt, tt)
+      refl
 
 -- ---- by calls one behind another
 
@@ -204,9 +184,10 @@ keeps_on id size m m' m'' A B = (
   both m.seat.me.0.trail m'.seat.me.0.trail m''.seat.me.0.trail A.2 B.2,
   kept_both B.2.newer A.2.newer B.3 A.3,
   none_both B.2.newer A.2.newer B.4 A.4,
+  B.5 ∙ A.5,
 )
 
 -- a seat that made no step, as a call begins
 pub keeps_first : {K : Type 0} (id : TableId) (size : PathSize) (m : Member K)
     → (m.seat.table_id ≡ id) × (m.seat.me.0.size ≡ size) → KeepsMemtables id size m m
-keeps_first id size m of = ((of, refl), refl, record { newer = []; is = refl }, tt, tt)
+keeps_first id size m of = ((of, refl), refl, record { newer = []; is = refl }, tt, tt, refl)

@@ -13,10 +13,6 @@ pub mod Handing
 pub mod Histories
 pub mod Accounted
 pub mod FewSegments
-pub mod FewGroups
-pub mod BarredMemtables
-pub mod FewWriteGroups
-pub mod SeatsOpen
 pub mod NonePassed
 pub mod Parted
 pub mod CoveredFiles
@@ -35,12 +31,12 @@ pub mod SealedApart
 pub mod SealedRows
 pub mod Rooms
 pub mod Growing
+pub mod Paying
 pub mod Acknowledged
 pub mod Promises
 pub mod FlushPromises
 pub mod RetirePromises
 pub mod Spending
-pub mod FullRows
 pub mod AnswerPromises
 pub mod FlushOwn
 pub mod OnlyFlushes

@@ -1,42 +1,13 @@
 -- What a run leaves behind when a path is closed.
-use Rattle.std.proofs.Common.{
-  ◌≡◌,
-  ℕ,
-  zero,
-  suc,
-  ◌-◌,
-  ◌*◌,
-  ◌<◌,
-  ◌≤◌,
-  Bool,
-  true,
-  false,
-  List,
-  [],
-  ◌∷◌,
-  ◌++◌,
-  map,
-  length,
-  Some,
-  None,
-  refl,
-  sym,
-  ap,
-  ◌∙◌,
-  subst,
-  arith,
-}
+use Rattle.std.proofs.Common.{◌≡◌, ℕ, zero, suc, ◌-◌, ◌*◌, ◌<◌, ◌≤◌, Bool, true, false, List, []}
+use Rattle.std.proofs.Common.{◌∷◌, ◌++◌, map, length, Some, None, refl, sym, ap, ◌∙◌, subst, arith}
 use Rattle.std.specs.List.{All, Contains, filter, range_with_len}
 use Rattle.std.specs.List.Sorted.{IsPermutation}
 use Rattle.std.proofs.lemmas.Bool.{false≢true}
 use Rattle.std.proofs.lemmas.List.{get_or_default, length-map, length-replicate}
 use Rattle.std.proofs.lemmas.List.Elements.{All-nil, All-cons, All-contains, All-head, All-tail}
-use Rattle.std.proofs.lemmas.List.Sorted.{
-  IsPermutation-refl,
-  IsPermutation-sym,
-  IsPermutation-trans,
-}
-use Rattle.op_core.specs.declared.count.Order.TheVariants.{Append, Write}
+use Rattle.std.proofs.lemmas.List.Sorted.{IsPermutation-refl, IsPermutation-sym}
+use Rattle.std.proofs.lemmas.List.Sorted.{IsPermutation-trans}
 use Rattle.path_core.specs.declared.event.Event.{Event}
 use Rattle.path_core.specs.declared.note.EntryNote.{EntryNote}
 use Rattle.path_core.specs.declared.state.Claim.{Claim}
@@ -59,40 +30,15 @@ use Rattle.path_rule.specs.declared.lasting.Lasting.{Lasting}
 use Rattle.path_rule.specs.declared.lasting.PutTable.{PutTable}
 use Rattle.path_rule.specs.declared.view.PathSize.{PathSize}
 use Rattle.path_rule.specs.Filing.{file_range, put_range}
-use Rattle.path_rule.specs.Lasts.{
-  lasting_of,
-  put_table,
-  shown,
-  none_lasting,
-  stopped_with,
-  fault_count,
-}
-use Rattle.path_rule.specs.Limits.{most_memtables}
+use Rattle.path_rule.specs.Lasts.{lasting_of, put_table, shown, none_lasting, stopped_with}
+use Rattle.path_rule.specs.Lasts.{fault_count}
 use Rattle.path_rule.specs.Rule.{IsFit, start_of, event_of, steps_by}
 use Rattle.path_rule.specs.Sharing.{EndsUnused}
 use Rattle.path_rule.specs.Trails.{TrailTells}
-use Rattle.write_path.specs.ClosedFiles.{
-  AreEmpty,
-  AreFinal,
-  AreGiven,
-  CoversFlushed,
-  IsFlushedBy,
-  held_range,
-}
-use Rattle.write_path.specs.Closed.{
-  IsOfSize,
-  IsOutcome,
-  IsStoppedFor,
-  IsSyncedFor,
-  AreStoppedFor,
-  AreSyncedFor,
-  ArePartedFor,
-  FindsGroupsTo,
-  FindsNewestTo,
-  FindsWriteGroupsTo,
-  HasComeFor,
-  all_writes,
-}
+use Rattle.write_path.specs.ClosedFiles.{AreEmpty, AreFinal, AreGiven, CoversFlushed, IsFlushedBy}
+use Rattle.write_path.specs.ClosedFiles.{held_range}
+use Rattle.write_path.specs.Closed.{IsOfSize, IsOutcome, IsStoppedFor, IsSyncedFor, AreStoppedFor}
+use Rattle.write_path.specs.Closed.{AreSyncedFor, ArePartedFor, HasComeFor, all_writes}
 use Rattle.write_path.specs.OneRun.{EndsBy}
 use Rattle.write_path.specs.Opened.{numbers_of}
 use Rattle.write_path.specs.Sealed.{AreSealed, AreSealedApart}
@@ -100,10 +46,7 @@ use Rattle.write_path.proofs.Accounted.{each_once, each_there}
 use Rattle.write_path.proofs.AskedFiles.{asked_by}
 use Rattle.write_path.proofs.BesideStays.{none_of, none_shown}
 use Rattle.write_path.proofs.CoveredFiles.{covers, ranges_shown, true_as_shown}
-use Rattle.write_path.proofs.FewGroups.{few_groups}
-use Rattle.write_path.proofs.FewWriteGroups.{few_write_groups}
 use Rattle.write_path.proofs.FewSegments.{few_segments}
-use Rattle.write_path.proofs.SeatsOpen.{few_opened}
 use Rattle.write_path.proofs.FilesGiven.{CameBy, files_given}
 use Rattle.write_path.proofs.ToldFiles.{are_given, stand_for_some}
 use Rattle.path_rule.proofs.log.FilesShown.{few_files}
@@ -261,21 +204,6 @@ module _ {K : Type 0} (size : PathSize) where
               omega (arith, low, log)) seats E.tell;
           few_segments = subst (λ k. ordinal_of k ≤ 2 * length x.notes - 1) (sym e.log_is)
               (few_segments x L idle);
-          few_groups = let most = few_groups size size.at_open e.events x
-              (opening_lawful size.tables size.seats size.capacity size.ordinals size.base e.fit)
-              e.run e.built idle in known_of x
-              (λ (s : PathSeat K). TrailTells size.capacity x (view_of s.member).trail)
-              (FindsGroupsTo (length x.notes)) (λ s T g F. let low = T.current Append g F in
-              omega (arith, low, most)) seats E.tell;
-          few_write_groups = let most = few_write_groups size size.at_open e.events x first e.run
-              e.built e.rows in known_of x
-              (λ (s : PathSeat K). TrailTells size.capacity x (view_of s.member).trail)
-              (FindsWriteGroupsTo most_memtables) (λ s T g F. let low = T.current Write g F in
-              omega (arith, low, most)) seats E.tell;
-          found_newest = let most = few_opened size e.events x seats e.run many all E.own in
-              known_of x (λ (s : PathSeat K). TrailTells size.capacity x (view_of s.member).trail)
-              (FindsNewestTo seats) (λ s T t last F. let low = T.newest (record { 0 = t }) last F in
-              let up = most t in omega (arith, low, up)) seats E.tell;
           none_passed = λ key. first_part x.capacity L.sized.limits.greatest_capacity key x.notes
               (is_history x L.claims_tile_the_log L.notes_are_claims) (none_passed x L idle);
           synced_is = synced;
@@ -468,13 +396,6 @@ module _ {K : Type 0} (size : PathSize) where
               (sym (no_seat seats none_there)) (All-nil (AreSyncedFor h));
           all_stopped = subst (λ (l : List (PathSeat K)). All (AreStoppedFor h) l)
               (sym (no_seat seats none_there)) (All-nil (AreStoppedFor h));
-          few_groups = subst (λ (l : List (PathSeat K)). All (FindsGroupsTo 0) l)
-              (sym (no_seat seats none_there)) (All-nil (FindsGroupsTo 0));
-          few_write_groups = subst (λ (l : List (PathSeat K)).
-              All (FindsWriteGroupsTo most_memtables) l) (sym (no_seat seats none_there))
-              (All-nil (FindsWriteGroupsTo most_memtables));
-          found_newest = subst (λ (l : List (PathSeat K)). All (FindsNewestTo l) l)
-              (sym (no_seat seats none_there)) (All-nil (FindsNewestTo []));
           parted = subst (λ (l : List (PathSeat K)). All (ArePartedFor size.capacity []) l)
               (sym (no_seat seats none_there)) (All-nil (ArePartedFor size.capacity []));
           sealed = subst (λ (l : List (PathSeat K)). All (λ (s : PathSeat K).

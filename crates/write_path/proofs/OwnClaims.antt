@@ -1,32 +1,8 @@
 -- What a seat claimed, as its steps tell it: where its claims of entries end, and that each of its
 -- notes was claimed by one of them.
-use Rattle.std.proofs.Common.{
-  ◌≡◌,
-  ◌≢◌,
-  ◌⊎◌,
-  ℕ,
-  zero,
-  suc,
-  ◌≤◌,
-  ◌==◌,
-  cond,
-  Bool,
-  true,
-  false,
-  List,
-  [],
-  ◌∷◌,
-  ◌++◌,
-  Some,
-  refl,
-  sym,
-  ap,
-  ◌∙◌,
-  subst,
-  ⊎_elim,
-  arith,
-  get_or-set_same,
-}
+use Rattle.std.proofs.Common.{◌≡◌, ◌≢◌, ◌⊎◌, ℕ, zero, suc, ◌≤◌, ◌==◌, cond, Bool, true, false, List}
+use Rattle.std.proofs.Common.{[], ◌∷◌, ◌++◌, Some, refl, sym, ap, ◌∙◌, subst, ⊎_elim, arith}
+use Rattle.std.proofs.Common.{get_or-set_same}
 use Rattle.std.specs.List.{Contains}
 use Rattle.std.proofs.lemmas.List.Elements.{Contains-append_cases}
 use Rattle.std.proofs.lemmas.Option.{none-some, same_Some}
@@ -58,7 +34,7 @@ use Rattle.path_core.proofs.runs.EveryRun.{past_lawful}
 use Rattle.path_core.proofs.seats.Columns.{claim_after, own_after}
 use Rattle.path_rule.specs.Rule.{steps_by}
 use Rattle.path_rule.proofs.log.Marks.{starts_above}
-use Rattle.path_rule.proofs.moves.Moving.{steps_other, steps_own}
+use Rattle.path_rule.proofs.log.Issues.{steps_other, steps_own}
 use Rattle.write_path.specs.Ends.{IsLast}
 use Rattle.write_path.proofs.Histories.{note_in, noted}
 

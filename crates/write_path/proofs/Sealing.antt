@@ -3,22 +3,10 @@ use Rattle.std.proofs.Common.{ℕ, List, [], ◌∷◌, ◌++◌, map, refl, sym
 use Rattle.std.proofs.lemmas.List.{append_assoc}
 use Rattle.path_core.specs.declared.event.ClaimKind.TheVariants.{Entry, Marker}
 use Rattle.path_core.specs.declared.event.Event.{Event}
-use Rattle.path_core.specs.declared.event.Event.TheVariants.{
-  Look,
-  Register,
-  Close,
-  OpenGroup,
-  MoveCurrent,
-  Expire,
-  Advance,
-  Claim,
-  Switch,
-  Raise,
-  Finalise,
-  TakeTurn,
-  GiveTurn,
-  Put,
-}
+use Rattle.path_core.specs.declared.event.Event.TheVariants.{Look, Register, Close, OpenGroup}
+use Rattle.path_core.specs.declared.event.Event.TheVariants.{MoveCurrent, Expire, Advance, Claim}
+use Rattle.path_core.specs.declared.event.Event.TheVariants.{Switch, Raise, Finalise, TakeTurn}
+use Rattle.path_core.specs.declared.event.Event.TheVariants.{GiveTurn, Put}
 use Rattle.path_core.specs.declared.event.Place.{Place}
 use Rattle.path_core.specs.declared.note.EntryNote.{EntryNote}
 use Rattle.path_rule.specs.declared.view.OwnStep.{OwnStep}
@@ -122,8 +110,8 @@ found_behind w n at value (t ∷ ts) us A last F = ⊎_elim
     (found_behind w n at value ts us A.1 last older)) F
 
 -- The same over the views before the steps and behind them.
-module _ (w : ℕ) (n : EntryNote) (puts : List Event) (v after : View)
-    (S : RoundSteps w puts v after) (last : IsLast n (map event_of v.trail)) where
+module _ {k : ℕ} (w : ℕ) (n : EntryNote) (puts : List Event) (v after : View)
+    (S : RoundSteps w k puts v after) (last : IsLast n (map event_of v.trail)) where
   pub stays_last : IsLast n (map event_of after.trail)
   stays_last = subst (λ l. IsLast n (map event_of l)) (sym S.trail)
       (rounds_keep w n S.steps v.trail S.are last)

@@ -1,49 +1,18 @@
 -- Steps of barriers and syncs leave a seat's list. A try to sync, put together.
-use Rattle.std.proofs.Common.{
-  ◌≡◌,
-  ℕ,
-  List,
-  [],
-  ◌∷◌,
-  ◌++◌,
-  Option,
-  Some,
-  None,
-  refl,
-  sym,
-  ap,
-  ◌∙◌,
-  subst,
-}
+use Rattle.std.proofs.Common.{◌≡◌, ℕ, List, [], ◌∷◌, ◌++◌, Option, Some, None, refl, sym, ap, ◌∙◌}
+use Rattle.std.proofs.Common.{subst}
 use Rattle.std.proofs.lemmas.Option.{none-some, same_Some}
 use mathlib.Core.Logic.{inl}
 use Rattle.path_core.specs.declared.event.Event.{Event}
-use Rattle.path_core.specs.declared.event.Event.TheVariants.{
-  Look,
-  Register,
-  Close,
-  OpenGroup,
-  MoveCurrent,
-  Expire,
-  Advance,
-  Claim,
-  Switch,
-  Raise,
-  Finalise,
-  TakeTurn,
-  GiveTurn,
-  Put,
-}
+use Rattle.path_core.specs.declared.event.Event.TheVariants.{Look, Register, Close, OpenGroup}
+use Rattle.path_core.specs.declared.event.Event.TheVariants.{MoveCurrent, Expire, Advance, Claim}
+use Rattle.path_core.specs.declared.event.Event.TheVariants.{Switch, Raise, Finalise, TakeTurn}
+use Rattle.path_core.specs.declared.event.Event.TheVariants.{GiveTurn, Put}
 use Rattle.path_core.specs.declared.event.Place.TheVariants.{Log}
 use Rattle.path_core.specs.declared.event.Turn.TheVariants.{Sync}
 use Rattle.path_core.specs.declared.note.EntryNote.{EntryNote}
 use Rattle.path_rule.specs.declared.answer.SyncAnswer.{SyncAnswer}
-use Rattle.path_rule.specs.declared.answer.SyncAnswer.TheVariants.{
-  Done,
-  Stopped,
-  OutOfMemory,
-  Rows,
-}
+use Rattle.path_rule.specs.declared.answer.SyncAnswer.TheVariants.{Done, Stopped, OutOfMemory}
 use Rattle.path_rule.specs.declared.view.Hands.{Hands}
 use Rattle.path_rule.specs.declared.view.OwnStep.{OwnStep}
 use Rattle.path_rule.specs.declared.view.View.{View}
@@ -52,13 +21,8 @@ use Rattle.path_rule.specs.Rounds.{IsRoundStep, AreRoundSteps, RoundSteps}
 use Rattle.path_rule.specs.Finds.{Finds}
 use Rattle.path_rule.specs.Reached.{MayReach, Reaches}
 use Rattle.path_rule.specs.SyncAnswers.{IsAnswer, Answers, MayAnswer}
-use Rattle.path_rule.proofs.seats.Answering.{
-  answers_after,
-  found_after,
-  found_before,
-  may_after,
-  may_still,
-}
+use Rattle.path_rule.proofs.seats.Answering.{answers_after, found_after, found_before, may_after}
+use Rattle.path_rule.proofs.seats.Answering.{may_still}
 use Rattle.path_rule.proofs.seats.RoundsGo.{both, one, one_as}
 use Rattle.path_flush.proofs.ListBelow.{list_below}
 use Rattle.path_flush.specs.OwnWrites.{with_write, writes_of}
@@ -92,11 +56,10 @@ covers : (w opened : ℕ) (a : SyncAnswer) (ps : List Event) (v : View) → IsAn
 covers w opened (Done s) ps v I = list_below s v.trail I.1
 covers w opened (Stopped at_open now) ps v I = tt
 covers w opened OutOfMemory ps v I = tt
-covers w opened (Rows n) ps v I = tt
 
 -- So an answer behind a look at the log is that of a sync, if it reaches what was found there.
 pub syncs : (w opened key : ℕ) (v u : View) (a : SyncAnswer) (after : View)
-    → HasLooked w key v u → Answers w opened u a after → Reaches v.size.capacity key a
+    → HasLooked w key v u → Answers w 1 opened u a after → Reaches v.size.capacity key a
     → Syncs w opened v a after
 syncs w opened key v u a after L B R = let A = answers_after w opened a v u after L.steps B in
     record {
@@ -111,7 +74,7 @@ syncs w opened key v u a after L B R = let A = answers_after w opened a v u afte
 -- an answer that there was
 pub answered : (w opened capacity key : ℕ) (v u after : View) (r : Option SyncAnswer)
     (a : SyncAnswer) → r ≡ Some a → v.size.capacity ≡ capacity → HasLooked w key v u
-    → MayAnswer w opened u r after → MayReach capacity key r → Syncs w opened v a after
+    → MayAnswer w 1 opened u r after → MayReach capacity key r → Syncs w opened v a after
 answered w opened capacity key v u after None a is fits L A R = absurd (none-some a is)
 answered w opened capacity key v u after (Some b) a is fits L A R =
     subst (λ (x : SyncAnswer). Syncs w opened v x after) (same_Some b a is)
@@ -129,9 +92,9 @@ looked_at w key v after D = record {
 
 -- it is found still behind further steps
 pub looked_on : (w z key : ℕ) (v u after : View) → z ≡ w → HasLooked w key v u
-    → RoundSteps z [] u after → HasLooked w key v after
+    → RoundSteps z 0 [] u after → HasLooked w key v after
 looked_on w z key v u after same L S =
-    let B = subst (λ k. RoundSteps k [] u after) same S in record {
+    let B = subst (λ k. RoundSteps k 0 [] u after) same S in record {
       steps = both w [] [] v u after L.steps B;
       looked = found_before Log key B.steps L.steps.steps L.looked;
     }
@@ -144,15 +107,13 @@ looked_trail w key v after L = subst (λ (l : List OwnStep). Finds Log key l)
 -- A seat took the Sync turn, made a round of a sync, and gave the turn back.
 pub tried : (w z y opened : ℕ) (h k : Hands) (a : Option SyncAnswer) (v u x after : View)
     → DidAs v w (TakeTurn w Sync) 1 h u → h.reading ≡ v.hands.reading → z ≡ w
-    → MayAnswer z opened u a x → y ≡ w
+    → MayAnswer z 1 opened u a x → y ≡ w
     → DidAs x y (GiveTurn y Sync) 0 k after → k.reading ≡ x.hands.reading
-    → k.progress.marker ≡ x.hands.progress.marker
-    → MayAnswer w opened v a after
-tried w z y opened h k a v u x after took reads same A again gave kept marker =
-    may_still w opened a v x after
-    (may_after w opened a v u x (one_as w (TakeTurn w Sync) 1 h v u refl took reads)
-    (subst (λ i. MayAnswer i opened u a x) same A))
-    (subst (λ i. RoundSteps i [] x after) again
+    → MayAnswer w 1 opened v a after
+tried w z y opened h k a v u x after took reads same A again gave kept =
+    may_still 1 w opened a v x after
+    (may_after 1 w opened a v u x (one_as w (TakeTurn w Sync) 1 h v u refl took reads)
+    (subst (λ i. MayAnswer i 1 opened u a x) same A))
+    (subst (λ i. RoundSteps i 0 [] x after) again
     (one_as y (GiveTurn y Sync) 0 k x after refl gave kept))
     (ap (λ (q : View). q.part.found) gave.view)
-    (ap (λ (q : View). q.hands.progress.marker) gave.view ∙ marker)

@@ -1,50 +1,33 @@
 -- What one try leaves of a seat that has deposited its entry.
-use Rattle.std.proofs.Common.{
-  ◌≡◌,
-  ℕ,
-  ◌<◌,
-  ◌^◌,
-  Bool,
-  List,
-  [],
-  ◌∷◌,
-  Some,
-  None,
-  sym,
-  ap,
-  ◌∙◌,
-  subst,
-}
+use Rattle.std.proofs.Common.{◌≡◌, ℕ, ◌<◌, ◌^◌, ◌≤◌, Bool, false, List, [], ◌∷◌, Some, None, sym}
+use Rattle.std.proofs.Common.{ap, ◌∙◌, subst, arith}
 use Rattle.atomic_table.specs.Seated.{TableId}
 use Rattle.path_core.specs.declared.event.Event.{Event}
 use Rattle.path_core.specs.declared.seat.Seat.{Seat}
 use Rattle.path_core.specs.Parts.{HoldsNoTurn}
-use Rattle.path_core.proofs.seats.Columns.{
-  append_after,
-  claim_after,
-  flush_after,
-  issue_after,
-  issue_held,
-  note_after,
-  write_after,
-}
+use Rattle.path_core.proofs.seats.Columns.{append_after, claim_after, flush_after, issue_after}
+use Rattle.path_core.proofs.seats.Columns.{issue_held, note_after, write_after}
 use Rattle.path_core.proofs.seats.StepColumns.{FitsSeat}
 use Rattle.path_rule.specs.declared.slot.Slot.{Slot}
 use Rattle.path_rule.specs.declared.view.PathSize.{PathSize}
 use Rattle.path_rule.specs.declared.view.View.{View}
 use Rattle.path_rule.specs.Calls.{Did}
+use Rattle.path_rule.specs.Issued.{is_issue, is_open, issued_in, opened_in}
 use Rattle.path_rule.proofs.seats.Staying.{view_columns, free_stays}
 use Rattle.path_table.specs.Members.{IsOf, KeepsBoxes}
 use Rattle.write_path.specs.declared.deposited.Deposited.{Deposited}
 use Rattle.path_flush.specs.OwnWrites.{writes_of, with_write}
 use Rattle.write_path.specs.Ends.{IsSameWrite, IsTry}
+use Rattle.write_path.proofs.Paying.{one_more}
 
--- a step leaves what a seat knows of its write, and of its turns
+-- a step leaves what a seat knows of its write, and of its turns, issues no barrier and makes no
+-- memtable
 abbrev pub LeavesWrite : Event → Seat → Type 0
 LeavesWrite e s = (write_after s.write e ≡ s.write) × (append_after s.append e ≡ s.append)
     × (claim_after s.claim e ≡ s.claim) × (note_after s.note e ≡ s.note)
     × (issue_after (issue_held s) e ≡ issue_held s)
-    × ((t : ℕ) (b : Bool) → flush_after t b e ≡ b) × FitsSeat e s
+    × ((t : ℕ) (b : Bool) → flush_after t b e ≡ b) × FitsSeat e s × (is_issue e ≡ false)
+    × (is_open e ≡ false)
 
 module _ {K : Type 0} where
   -- what is known of such a seat is so behind the step
@@ -60,6 +43,7 @@ module _ {K : Type 0} where
         free : HoldsNoTurn v.part;
         bare : boxes ≡ [];
         rests : v.hands.memtable_box ≡ None;
+        paid : opened_in v.trail ≤ issued_in v.trail;
       }
   still_deposited {e} {n} s d same L = let u = s.member.seat.me.0 in
       let C = view_columns u e n L.6 in record {
@@ -73,6 +57,11 @@ module _ {K : Type 0} where
             (free_stays e u.part _ C L.4 L.5 s.free);
         bare = same ∙ s.bare;
         rests = ap (λ (v : View). v.hands.memtable_box) d.view ∙ s.rests;
+        paid = let issues = ap (λ (v : View). issued_in v.trail) d.view
+            ∙ one_more (is_issue e) (issued_in u.trail) L.7 in
+            let opens = ap (λ (v : View). opened_in v.trail) d.view
+            ∙ one_more (is_open e) (opened_in u.trail) L.8 in
+            let before = s.paid in omega (arith, issues, opens, before);
       }
 
   -- so it is the same write, and has tried once

@@ -1,31 +1,13 @@
 -- What a path tells when it is closed.
-use Rattle.std.specs.Prelude.{
-  ◌≡◌,
-  ◌⊎◌,
-  ℕ,
-  ◌-◌,
-  ◌*◌,
-  ◌<◌,
-  ◌≤◌,
-  true,
-  false,
-  List,
-  [],
-  length,
-  map,
-  Option,
-  Some,
-  None,
-  IsTrue,
-}
-use Rattle.std.specs.List.{All, Contains, filter, flat_map, range_with_len, sum_by}
+use Rattle.std.specs.Prelude.{◌≡◌, ◌⊎◌, ℕ, ◌-◌, ◌*◌, ◌<◌, ◌≤◌, true, false, List, [], length, map}
+use Rattle.std.specs.Prelude.{Option, Some, None, IsTrue}
+use Rattle.std.specs.List.{All, Contains, filter, flat_map, range_with_len}
 use Rattle.std.specs.List.Sorted.{IsPermutation}
 use Rattle.atomic_table.specs.Seated.{TableId}
 use Rattle.clog_cells.specs.Merge.{IsMergeOf}
-use Rattle.op_core.specs.declared.count.Order.TheVariants.{Append, Write}
 use Rattle.path_core.specs.declared.event.Cursor.TheVariants.{Synced, Stopped}
 use Rattle.path_core.specs.declared.event.Event.{Event}
-use Rattle.path_core.specs.declared.event.Place.TheVariants.{Current, CursorWord, Log, Newest}
+use Rattle.path_core.specs.declared.event.Place.TheVariants.{CursorWord, Log}
 use Rattle.path_core.specs.declared.note.EntryNote.{EntryNote}
 use Rattle.path_core.specs.declared.state.PathState.{PathState}
 use Rattle.path_core.specs.Droppable.{IsDroppable}
@@ -49,18 +31,9 @@ use Rattle.path_table.specs.declared.table.Opener.{Opener}
 use Rattle.path_table.specs.declared.trying.PathSeat.{PathSeat}
 use Rattle.path_table.specs.Members.{view_of, part_of, IsOf, returned_of}
 use Rattle.write_path.specs.declared.resting.Resting.{Resting}
-use Rattle.write_path.specs.ClosedFiles.{
-  AreEmpty,
-  AreFinal,
-  AreGiven,
-  CoversFlushed,
-  HasEntryBetween,
-  IsFlushedBy,
-  IsUnfiled,
-  held_range,
-}
+use Rattle.write_path.specs.ClosedFiles.{AreEmpty, AreFinal, AreGiven, CoversFlushed}
+use Rattle.write_path.specs.ClosedFiles.{HasEntryBetween, IsFlushedBy, IsUnfiled, held_range}
 use Rattle.path_flush.specs.OwnWrites.{writes_of}
-use Rattle.path_flush.specs.Opens.{opens}
 use Rattle.write_path.specs.Sealed.{AreSealed, AreSealedApart}
 
 -- A path is closed with all of its seats, in whatever order, or with none where they were not
@@ -81,16 +54,6 @@ module _ {K : Type 0} where
   -- the seats' lists of their own writes, together
   abbrev pub all_writes : List (PathSeat K) → List EntryNote
   all_writes seats = flat_map (λ (s : PathSeat K). writes_of s.member.seat.me.0.trail) seats
-
-  -- how many memtables of a table the seats opened, together
-  abbrev pub all_opened : ℕ → List (PathSeat K) → ℕ
-  all_opened t seats = sum_by (λ (z : PathSeat K). opens t (view_of z.member).trail) seats
-
-  -- Each memtable that a seat found as a table's newest is one that these seats opened, or one
-  -- below it, or memtable 0.
-  abbrev pub FindsNewestTo : List (PathSeat K) → PathSeat K → Type 0
-  FindsNewestTo seats s = (t last : ℕ)
-      → Finds (Newest (record { 0 = t })) last (view_of s.member).trail → last ≤ all_opened t seats
 
 -- A seat last found or put this synced key, or none, and the keeper has at least so much.
 abbrev pub IsSyncedFor : {K : Type 0} → Holding → PathSeat K → Type 0
@@ -113,14 +76,6 @@ AreStoppedFor h s = (n : ℕ) → Finds (CursorWord Stopped) n (view_of s.member
 -- The log has come to each log key that a seat found.
 abbrev pub HasComeFor : {K : Type 0} → ℕ → PathSeat K → Type 0
 HasComeFor end s = (key : ℕ) → Finds Log key (view_of s.member).trail → key ≤ end
-
--- Each group of the append order that a seat found current is at most this one.
-abbrev pub FindsGroupsTo : {K : Type 0} → ℕ → PathSeat K → Type 0
-FindsGroupsTo last s = (g : ℕ) → Finds (Current Append) g (view_of s.member).trail → g ≤ last
-
--- The same of the write order.
-abbrev pub FindsWriteGroupsTo : {K : Type 0} → ℕ → PathSeat K → Type 0
-FindsWriteGroupsTo last s = (g : ℕ) → Finds (Current Write) g (view_of s.member).trail → g ≤ last
 
 -- The keeper that a path gives back has beside its log what the one had over which it was opened:
 -- the same disk at the opening. Where the path was opened for no table files it has none, and no
@@ -183,13 +138,6 @@ pub record IsOutcome {K : Type 0} (size : PathSize) (seats : List (PathSeat K)) 
   -- but for one
   pub found_log : All (HasComeFor end) seats
   pub few_segments : ordinal_of end ≤ 2 * length core.notes - 1
-  -- a seat found at most one group of the append order current for each write, but for the first
-  pub few_groups : All (FindsGroupsTo (length core.notes)) seats
-  -- and at most one group of the write order for each memtable that there is a word for
-  pub few_write_groups : All (FindsWriteGroupsTo most_memtables) seats
-  -- a memtable that a seat found as a table's newest has at most the number of those that the seats
-  -- opened
-  pub found_newest : All (FindsNewestTo seats) seats
   -- its first entries pass over no segment, up to whatever key
   pub none_passed : (key : ℕ) → PassesNoSegment (filter (is_at_most key) core.notes)
   -- the keeper has what the run made lasting
@@ -198,7 +146,7 @@ pub record IsOutcome {K : Type 0} (size : PathSize) (seats : List (PathSeat K)) 
   pub unfiled : size.files ≡ false → IsUnfiled core h
   -- the keeper's table files and those of the run stand for the same intervals, in one order
   pub files_are : map held_range h.files ≡ map file_range core.files
-  -- it has at most one for each memtable that there is a word for
+  -- it has at most one for each memtable that a path makes at most
   pub few_files : length h.files ≤ most_memtables
   -- each has the newest cells of what the history has in its interval
   pub true_files : (f : PutFile) → Contains h.files f

@@ -10,6 +10,7 @@ use Rattle.path_rule.specs.declared.view.PathSize.{PathSize}
 use Rattle.path_rule.specs.declared.view.View.{View}
 use Rattle.path_rule.specs.Calls.{FoundSince}
 use Rattle.path_rule.specs.Finds.{Finds}
+use Rattle.path_rule.specs.Issued.{issued_in}
 use Rattle.path_table.specs.declared.table.Member.{Member}
 use Rattle.write_path.specs.declared.prepared.Prepared.{Prepared}
 use Rattle.write_path.specs.declared.writing.Written.{Written}
@@ -26,12 +27,17 @@ KeepsList id size m m' = Stays id size m m'
     × (writes_of m'.seat.me.0.trail ≡ writes_of m.seat.me.0.trail)
     × HasGrown m.seat.me.0.trail m'.seat.me.0.trail
 
--- The same by steps that retire no memtable, and switch none.
+-- It has issued no barrier since.
+abbrev pub IssuesNone : {K : Type 0} → Member K → Member K → Type 0
+IssuesNone m m' = issued_in m'.seat.me.0.trail ≡ issued_in m.seat.me.0.trail
+
+-- The same seat with the same list, by steps that retire no memtable, switch none, and issue no
+-- barrier.
 abbrev pub KeepsMemtables : {K : Type 0} → TableId → PathSize → Member K → Member K → Type 0
 KeepsMemtables id size m m' = Stays id size m m'
     × (writes_of m'.seat.me.0.trail ≡ writes_of m.seat.me.0.trail)
     × (g : HasGrown m.seat.me.0.trail m'.seat.me.0.trail) × RetiresNone g.newer
-    × SwitchesNone g.newer
+    × SwitchesNone g.newer × IssuesNone m m'
 
 -- The seat found this log key, at a step behind its first `since` ones. At the key an entry of so
 -- many bytes has no segment.

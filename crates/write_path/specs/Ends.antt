@@ -1,20 +1,6 @@
 -- How a write ends, and what it adds to its seat's list.
-use Rattle.std.specs.Prelude.{
-  ◌≡◌,
-  ℕ,
-  ◌+◌,
-  ◌<◌,
-  ◌≤◌,
-  nat_le,
-  if◌then◌else◌,
-  List,
-  [],
-  ◌∷◌,
-  ◌++◌,
-  map,
-  Some,
-  None,
-}
+use Rattle.std.specs.Prelude.{◌^◌, ◌≡◌, ℕ, ◌+◌, ◌<◌, ◌≤◌, nat_le, if◌then◌else◌, List, [], ◌∷◌}
+use Rattle.std.specs.Prelude.{◌++◌, map, Some, None}
 use Rattle.atomic_table.specs.Seated.{TableId}
 use Rattle.clog_base.specs.declared.cell.Table.{Table}
 use Rattle.clog_base.specs.declared.sizes.Sizes.{Sizes}
@@ -120,7 +106,7 @@ abbrev pub HasTried : ℕ → ℕ → Accept → SeatTable → Type 0
 HasTried end m Yes after = after.place ≡ Some m
 HasTried end m (Later key) after =
     (after.bound ≡ Some (record { memtable = m; bound = Final key })) × (key.0 < end)
-    × (after.trying ≡ Some (m + 1)) × (m + 1 < 256)
+    × (after.trying ≡ Some (m + 1)) × (m + 1 < 2 ^ 47)
 
 -- what a bound that is not raising answers
 abbrev pub answered : ℕ → BoundOf → Accept

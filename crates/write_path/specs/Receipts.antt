@@ -1,35 +1,25 @@
 -- What a commit answers, and what is so then of its seat and of the seat's list.
-use Rattle.std.specs.Prelude.{◌≡◌, ℕ, suc, ◌≤◌, List, length, Some}
+use Rattle.std.specs.Prelude.{◌≡◌, ℕ, ◌≤◌, List, length, Some}
 use Rattle.clog_base.specs.declared.sizes.Sizes.{Sizes}
 use Rattle.clog_base.specs.Positions.{position_of}
 use Rattle.clog_mutation.specs.declared.mutation.Mutation.{Mutation}
-use Rattle.op_core.specs.declared.count.Order.TheVariants.{Append}
 use Rattle.path_core.specs.declared.event.Cursor.TheVariants.{Stopped as StoppedCursor}
-use Rattle.path_core.specs.declared.event.Place.TheVariants.{Current, CursorWord}
+use Rattle.path_core.specs.declared.event.Place.TheVariants.{CursorWord}
 use Rattle.path_core.specs.declared.note.EntryNote.{EntryNote}
 use Rattle.path_core.specs.Keeper.{HasRisen}
 use Rattle.path_rule.specs.declared.answer.SyncAnswer.{SyncAnswer}
-use Rattle.path_rule.specs.declared.answer.SyncAnswer.TheVariants.{
-  Done,
-  Stopped,
-  OutOfMemory,
-  Rows,
-}
+use Rattle.path_rule.specs.declared.answer.SyncAnswer.TheVariants.{Done, Stopped, OutOfMemory}
 use Rattle.path_rule.specs.declared.view.OwnStep.{OwnStep}
 use Rattle.path_rule.specs.declared.view.PathSize.{PathSize}
 use Rattle.path_rule.specs.declared.view.View.{View}
-use Rattle.path_rule.specs.SyncAnswers.{HasNoGroup}
 use Rattle.sync_core.specs.declared.SyncCore.{SyncCore}
 use Rattle.sync_core.specs.declared.SyncCore.TheVariants.{Batch, Periodic}
 use Rattle.write_path.specs.declared.commit.Commit.{Commit}
 use Rattle.write_path.specs.declared.commit.Commit.TheVariants.{Logged, Durable, Unsynced, Spent}
 use Rattle.write_path.specs.declared.commit.Receipt.{Receipt}
 use Rattle.write_path.specs.declared.commit.SyncFault.{SyncFault}
-use Rattle.write_path.specs.declared.commit.SyncFault.TheVariants.{
-  Stopped as LogStopped,
-  OutOfMemory as NoMemory,
-  Rows as NoRows,
-}
+use Rattle.write_path.specs.declared.commit.SyncFault.TheVariants.{Stopped as LogStopped}
+use Rattle.write_path.specs.declared.commit.SyncFault.TheVariants.{OutOfMemory as NoMemory}
 use Rattle.write_path.specs.declared.prepared.Prepared.{Prepared}
 use Rattle.write_path.specs.Commits.{HasNoRoom, IsLogged}
 use Rattle.path_flush.specs.OwnWrites.{writes_of}
@@ -63,22 +53,17 @@ pub record IsDurable (end : ℕ) (v : View) : Type 0 where
   pub covers : CoversList (Done synced) v
 
 -- Why it was not synced, where `opened` is the keeper's count of faults at its opening. The seat
--- found or put the count with which the log is stopped, and it has risen; or it found the log
--- running, and the last group that there is a word for current.
+-- found or put the count with which the log is stopped, and it has risen; or memory was refused.
 abbrev pub IsUnsynced : ℕ → SyncFault → View → Type 0
 IsUnsynced opened (LogStopped at_open now) v = (at_open ≡ opened) × HasRisen at_open now
     × (v.part.found.stopped ≡ Some now)
 IsUnsynced opened NoMemory v = Unit {0}
-IsUnsynced opened (NoRows n) v = HasNoGroup n v
 
 -- The seat found so, or put it there, in this commit: behind the write, which was its last.
 abbrev pub IsToldBehind : EntryNote → SyncFault → List OwnStep → Type 0
 IsToldBehind n (LogStopped at_open now) trail =
     FoundWhileLast n (CursorWord StoppedCursor) now trail
 IsToldBehind n NoMemory trail = Unit {0}
-IsToldBehind n (NoRows groups) trail =
-    (last : ℕ) × (suc last ≡ groups) × FoundWhileLast n (Current Append) last trail
-    × FoundWhileLast n (CursorWord StoppedCursor) 0 trail
 
 -- What a commit by seat w answers in a mode. A write waits for a sync in batch mode alone. Durable:
 -- it is sealed, so a marker stands behind it before the seat's next one. Spent: it comes back,
@@ -104,7 +89,6 @@ IsCommitted mode size w before p (Spent back key) v = (back ≡ p)
 abbrev pub told_by : SyncFault → SyncAnswer
 told_by (LogStopped at_open now) = Stopped at_open now
 told_by NoMemory = OutOfMemory
-told_by (NoRows n) = Rows n
 
 -- What a sync behind a write with this receipt makes of it, from one view of the seat to another.
 abbrev pub Acknowledges : ℕ → ℕ → View → Receipt → Commit → View → Type 0

@@ -3,7 +3,7 @@ use Rattle.std.specs.Prelude.{ℕ, ◌+◌, ◌^◌, List, [], ◌∷◌}
 use Rattle.path_core.specs.declared.event.Cursor.TheVariants.{OldestLive}
 use Rattle.path_core.specs.declared.event.Event.TheVariants.{Look, Switch, Raise, Finalise}
 use Rattle.path_core.specs.declared.event.Place.TheVariants.{CursorWord, Log, Newest, TurnWord}
-use Rattle.path_core.specs.declared.event.SwitchPart.TheVariants.{Open, Mark}
+use Rattle.path_core.specs.declared.event.SwitchPart.TheVariants.{Clear, Open, Mark}
 use Rattle.path_core.specs.declared.event.Turn.TheVariants.{Flush}
 use Rattle.path_rule.specs.declared.view.OwnStep.{OwnStep}
 use Rattle.write_path.specs.SealedRows.{step_of}
@@ -15,6 +15,7 @@ switched_at m key = step_of (Finalise 0 (record { 0 = 0 }) m) (key + 2 ^ 62)
     ∷ step_of (Look 0 Log) key
     ∷ step_of (Switch 0 (record { 0 = 0 }) m Mark) (2 ^ 62)
     ∷ step_of (Switch 0 (record { 0 = 0 }) (m + 1) Open) (m + 1)
+    ∷ step_of (Switch 0 (record { 0 = 0 }) (m + 1) Clear) 0
     ∷ []
 
 -- Another seat has the turn.

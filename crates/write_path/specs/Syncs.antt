@@ -4,12 +4,7 @@ use Rattle.std.specs.List.{Contains}
 use Rattle.path_core.specs.declared.event.Place.TheVariants.{Log}
 use Rattle.path_core.specs.declared.note.EntryNote.{EntryNote}
 use Rattle.path_rule.specs.declared.answer.SyncAnswer.{SyncAnswer}
-use Rattle.path_rule.specs.declared.answer.SyncAnswer.TheVariants.{
-  Done,
-  Stopped,
-  OutOfMemory,
-  Rows,
-}
+use Rattle.path_rule.specs.declared.answer.SyncAnswer.TheVariants.{Done, Stopped, OutOfMemory}
 use Rattle.path_rule.specs.declared.view.View.{View}
 use Rattle.path_rule.specs.Finds.{Finds}
 use Rattle.path_rule.specs.Reached.{Reaches}
@@ -22,18 +17,18 @@ abbrev pub CoversList : SyncAnswer → View → Type 0
 CoversList (Done s) v = (n : EntryNote) → Contains (writes_of v.trail) n → n.end.0 ≤ s
 CoversList (Stopped at_open now) v = Unit {0}
 CoversList OutOfMemory v = Unit {0}
-CoversList (Rows n) v = Unit {0}
 
--- Seat w made steps of barriers and syncs alone, which put nothing, and found the log key at one.
+-- Seat w made steps of barriers and syncs alone, which put nothing and issued no barrier, and found
+-- the log key at one.
 pub record HasLooked (w key : ℕ) (v after : View) : Type 0 where
-  pub steps : RoundSteps w [] v after
+  pub steps : RoundSteps w 0 [] v after
   pub looked : Finds Log key steps.steps
 
--- A sync by seat w answered this. The seat made steps of barriers and syncs alone, its list is as
--- it was, and what `Answers` says of the keys and counts is so. It found this log key in the call,
--- and Done says that the log is lasting up to there.
+-- A sync by seat w answered this. The seat made steps of barriers and syncs alone, of which one at
+-- most issued a barrier, its list is as it was, and what `Answers` says of the keys and counts is
+-- so. It found this log key in the call, and Done says that the log is lasting up to there.
 pub record Syncs (w opened : ℕ) (v : View) (answer : SyncAnswer) (after : View) : Type 0 where
-  pub answers : Answers w opened v answer after
+  pub answers : Answers w 1 opened v answer after
   pub list : writes_of after.trail ≡ writes_of v.trail
   pub covers : CoversList answer after
   pub end : ℕ

@@ -17,8 +17,8 @@ pub record Joined (v : View) (w g : ℕ) (after : View) : Type 0 where
   pub did : DidAs (looked_twice v w Append g looked) w (Register w Append g) (looked + 1)
       (with_notes notes v.hands) after
 
--- Seat w only looked: it found the count `looked` and then `found`, which is expired or another,
--- and what it says it found in this call.
+-- Seat w only looked: it found the word `looked`, which is expired or of another group, or then the
+-- word `found`, which is another; and what it says it found in this call.
 pub record OnlyLooked (o : Order) (v : View) (w looked found : ℕ) (after : View) : Type 0 where
   pub refused : Refused v w o looked found after
   pub acts_stay : acts after.trail ≡ acts v.trail

@@ -46,7 +46,7 @@ impl<K: Keeper, A: Allocator> WritePath<K, A> {
         requires table { IsOf self.now.table.table.shared.table_id self.now.table.size
             seat.old.member }
         requires there { table.0 < self.now.table.size.tables }
-        requires tried { (memtable < 256)
+        requires tried { (memtable < 2 ^ 47)
             × ((seat_table (part_of seat.old.member) table.0).trying ≡ Some memtable) }
         ensures same { IsSameWrite self.now.table.table.shared.table_id self.now.table.size
             seat.old seat.new }
@@ -66,7 +66,7 @@ impl<K: Keeper, A: Allocator> WritePath<K, A> {
         requires table { IsOf self.now.table.table.shared.table_id self.now.table.size
             seat.old.member }
         requires there { (table.0 < self.now.table.size.tables) × (seat.old.end.0 < 2 ^ 62) }
-        requires tried { (memtable < 256)
+        requires tried { (memtable < 2 ^ 47)
             × ((seat_table (part_of seat.old.member) table.0).trying ≡ Some memtable) }
         requires found { (b : BoundKind) × ((seat_table (part_of seat.old.member) table.0).bound
             ≡ Some (record { memtable = memtable; bound = b })) × (b ≢ Live) }
@@ -87,7 +87,7 @@ impl<K: Keeper, A: Allocator> WritePath<K, A> {
         requires table { IsOf self.now.table.table.shared.table_id self.now.table.size
             seat.old.member }
         requires there { (table.0 < self.now.table.size.tables) × (seat.old.end.0 < 2 ^ 62) }
-        requires tried { (memtable < 256)
+        requires tried { (memtable < 2 ^ 47)
             × ((seat_table (part_of seat.old.member) table.0).trying ≡ Some memtable) }
         requires found { (b : BoundKind) × ((seat_table (part_of seat.old.member) table.0).bound
             ≡ Some (record { memtable = memtable; bound = b })) × (b ≢ Live) }
@@ -112,7 +112,7 @@ impl<K: Keeper, A: Allocator> WritePath<K, A> {
         requires table { IsOf self.now.table.table.shared.table_id self.now.table.size
             seat.old.member }
         requires there { table.0 < self.now.table.size.tables }
-        requires tried { (memtable < 256)
+        requires tried { (memtable < 2 ^ 47)
             × ((seat_table (part_of seat.old.member) table.0).trying ≡ Some memtable) }
         ensures same { IsSameWrite self.now.table.table.shared.table_id self.now.table.size
             seat.old seat.new }

@@ -1,11 +1,12 @@
 //! A write commits: it is logged and placed, and in batch mode the log is synced before it is
 //! answered (`CommitLog.add`, `BatchCommitLogService`). In periodic mode it waits for no sync and
 //! takes no memory (`PeriodicCommitLogService`).
-ghost use Rattle.std.specs.Prelude.{◌≡◌, ℕ, List};
+ghost use Rattle.std.specs.Prelude.{◌≡◌, ℕ, ◌+◌, ◌^◌, ◌≤◌, List};
 ghost use Rattle.clog_base.specs.declared.sizes.Sizes.{Sizes};
 ghost use Rattle.clog_base.specs.Positions.{position_of};
 ghost use Rattle.clog_mutation.specs.declared.mutation.Mutation.{Mutation};
 ghost use Rattle.path_rule.specs.declared.view.OwnStep.{OwnStep};
+ghost use Rattle.path_rule.specs.Issued.{issued_in};
 ghost use Rattle.path_table.specs.Members.{view_of, IsOf};
 ghost use Rattle.write_path.specs.declared.prepared.Prepared.{Prepared as PreparedWrite};
 ghost use Rattle.write_path.specs.Commits.{IsWritten};
@@ -46,18 +47,20 @@ impl<K: Keeper, A: Allocator> WritePath<K, A> {
         seat: PathSeat<K>,
         receipt: Receipt,
     ) -> (PathSeat<K>, Commit)
-        requires { IsOf self.now.table.table.shared.table_id self.now.table.size seat.member }
+        requires table { IsOf self.now.table.table.shared.table_id self.now.table.size seat.member }
+        requires spends { issued_in (view_of seat.member).trail ≤ 2 ^ 40 }
         ensures same { Stays self.now.table.table.shared.table_id self.now.table.size seat.member
             result.0.member }
         ensures acknowledges { Acknowledges seat.member.number self.now.table.size.at_open
             (view_of seat.member) receipt result.1 (view_of result.0.member) }
+        ensures issued { issued_in (view_of result.0.member).trail
+            ≤ 1 + issued_in (view_of seat.member).trail }
     {
         let (seat, answer) = self.sync(rt, alloc, seat);
         let fault = match answer {
             SyncAnswer::Done(_) => return (seat, Commit::Durable(receipt)),
             SyncAnswer::Stopped { at_open, now } => SyncFault::Stopped { at_open, now },
             SyncAnswer::OutOfMemory => SyncFault::OutOfMemory,
-            SyncAnswer::Rows(groups) => SyncFault::Rows(groups),
         };
         (seat, Commit::Unsynced(receipt, fault))
     }
@@ -71,7 +74,8 @@ impl<K: Keeper, A: Allocator> WritePath<K, A> {
         line: u32,
         written: Written,
     ) -> (PathSeat<K>, Commit)
-        requires { IsOf self.now.table.table.shared.table_id self.now.table.size seat.member }
+        requires table { IsOf self.now.table.table.shared.table_id self.now.table.size seat.member }
+        requires spends { issued_in (view_of seat.member).trail ≤ 2 ^ 40 }
         ensures same { Stays self.now.table.table.shared.table_id self.now.table.size seat.member
             result.0.member }
         ensures answer { (before : List OwnStep) (p : PreparedWrite) → IsLineOf p line
@@ -79,6 +83,8 @@ impl<K: Keeper, A: Allocator> WritePath<K, A> {
             (view_of seat.member)
             → IsCommitted self.now.mode self.now.table.size seat.member.number before p result.1
             (view_of result.0.member) }
+        ensures issued { issued_in (view_of result.0.member).trail
+            ≤ 1 + issued_in (view_of seat.member).trail }
     {
         let end = match written {
             Written::Logged { start: _, end } => end,
@@ -96,7 +102,8 @@ impl<K: Keeper, A: Allocator> WritePath<K, A> {
     /// found, or put, before it claimed anything further: so a marker stands between the write and
     /// the seat's next one. `Unsynced` tells what the seat found, or put, behind the write. The
     /// gate is told `Started` before the write registers, `Claimed`, `Deposited` and `Finished`
-    /// once each is done, `Accepted` at each of its tables, and `Returned` at the end. No clause
+    /// once each is done, `Accepted` at each of its tables, and `Returned` at the end. The seat has
+    /// issued at most 1,099,511,627,776 barriers before, and issues one more at most. No clause
     /// says that it returns.
     pub fn commit<R: Wait, G: Gate>(
         &self,
@@ -110,10 +117,13 @@ impl<K: Keeper, A: Allocator> WritePath<K, A> {
         requires prepared { (sizes : Sizes) × (line : ℕ) × (m : Mutation)
             × IsPrepared sizes line m prepared × (sizes.tables ≡ self.now.table.size.tables)
             × (sizes.capacity ≡ self.now.table.size.capacity) }
+        requires spends { issued_in (view_of seat.member).trail ≤ 2 ^ 40 }
         ensures same { Stays self.now.table.table.shared.table_id self.now.table.size seat.member
             result.0.member }
         ensures committed { IsCommitted self.now.mode self.now.table.size seat.member.number
             (view_of seat.member).trail prepared result.1 (view_of result.0.member) }
+        ensures issued { issued_in (view_of result.0.member).trail
+            ≤ 1 + issued_in (view_of seat.member).trail }
     {
         let writer = Writer(seat.member.number());
         let line = prepared.line();

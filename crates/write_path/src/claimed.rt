@@ -3,6 +3,7 @@ ghost use Rattle.std.specs.Prelude.{◌≡◌, ◌^◌, ◌≤◌, [], ◌∷◌
 ghost use Rattle.path_core.specs.Parts.{HoldsNoTurn};
 ghost use Rattle.path_rule.specs.declared.slot.Slot.TheVariants.{Notes};
 ghost use Rattle.path_rule.specs.Boxes.{box_of};
+ghost use Rattle.path_rule.specs.Issued.{issued_in, opened_in};
 
 use clog_base::Key;
 use path_table::Member;
@@ -28,4 +29,5 @@ pub struct Claimed<K> {
     pub ghost carries: { member.seat.me.1
         ≡ (box_of member.number group, Notes member.seat.me.0.hands.notes) ∷ [] },
     pub ghost few: { length member.seat.me.0.hands.notes ≤ 2 ^ 62 },
+    pub ghost paid: { opened_in member.seat.me.0.trail ≤ issued_in member.seat.me.0.trail },
 }

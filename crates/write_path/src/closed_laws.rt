@@ -1,50 +1,18 @@
 //! What a close tells of flushes, also on worked rows. Nothing here runs.
-ghost use Rattle.std.specs.Prelude.{
-  ◌≡◌,
-  ℕ,
-  ◌<◌,
-  ◌≤◌,
-  false,
-  List,
-  [],
-  ◌∷◌,
-  ◌++◌,
-  Some,
-  None,
-  IsTrue,
-};
+ghost use Rattle.std.specs.Prelude.{◌≡◌, ℕ, ◌<◌, ◌≤◌, false, List, [], ◌∷◌, ◌++◌, Some, None};
+ghost use Rattle.std.specs.Prelude.{IsTrue};
 ghost use Rattle.std.specs.List.{Contains};
 ghost use Rattle.clog_base.specs.declared.cell.Table.{Table};
 ghost use Rattle.path_core.specs.declared.note.EntryNote.{EntryNote};
 ghost use Rattle.path_core.specs.declared.state.Bound.TheVariants.{Final};
 ghost use Rattle.path_core.specs.declared.state.PathState.{PathState};
-ghost use Rattle.path_core.specs.Keeper.{Holding};
 ghost use Rattle.path_core.specs.Parts.{memtable_of, touches};
 ghost use Rattle.path_rule.specs.declared.view.OwnStep.{OwnStep};
-ghost use Rattle.path_rule.specs.declared.view.PathSize.{PathSize};
-ghost use Rattle.path_rule.specs.declared.view.View.{View};
 ghost use Rattle.path_rule.specs.TrailRows.{retired};
-ghost use Rattle.path_table.specs.Members.{view_of};
-ghost use Rattle.path_flush.specs.declared.flush_answer.Flush.TheVariants.{Rows as FlushRows};
-ghost use Rattle.path_flush.specs.declared.switch_answer.Row.TheVariants.{Memtables, WriteGroups};
-ghost use Rattle.path_flush.specs.declared.switch_answer.Switch.TheVariants.{Rows as SwitchRows};
-ghost use Rattle.write_path.specs.Closed.{IsOutcome, all_opened};
-ghost use Rattle.write_path.specs.ClosedFiles.{
-  AreEmpty,
-  AreGiven,
-  CoversFlushed,
-  HasEntryBetween,
-  HasRetired,
-  IsGiven,
-};
-ghost use Rattle.path_flush.specs.Grown.{HasGrown};
-ghost use Rattle.write_path.specs.Promised.{WasFlushed};
+ghost use Rattle.write_path.specs.ClosedFiles.{AreEmpty, AreGiven, CoversFlushed, HasEntryBetween};
+ghost use Rattle.write_path.specs.ClosedFiles.{HasRetired, IsGiven};
 ghost use Rattle.write_path.specs.FlushedRows.{file_between, file_to, flushed_at};
-ghost use Rattle.path_flush.specs.Switched.{Switches};
 ghost use Rattle.write_path.specs.SwitchedRows.{switched_at};
-
-use path_core::Keeper;
-use path_table::PathSeat;
 
 /// What a seat's steps tell of a flush, and what a close says then of the keeper's files.
 pub fn what_a_flush_covers()
@@ -94,34 +62,4 @@ pub fn what_a_retired_memtable_leaves()
         → ¬ HasEntryBetween (n ∷ []) 0 0 key }
     ensures other { (key : ℕ) (n : EntryNote) → touches n.tables 0 ≡ false
         → ¬ HasEntryBetween (n ∷ []) 0 0 key }
-{}
-
-/// A path never runs out of groups of the write order: each one but the first was made for a
-/// memtable, and there are words for 4,096 of those.
-pub fn write_groups_do_not_run_out<K: Keeper>()
-    // So no flush is answered `Rows` of them.
-    ensures flushed { (size : PathSize) (seats : List (PathSeat K)) (end : ℕ) (h : Holding)
-        → IsOutcome size seats end h → (s : PathSeat K) → Contains seats s → (t : Table) (made : ℕ)
-        → ¬ WasFlushed s.member.number t (FlushRows WriteGroups made) (view_of s.member).trail }
-    // Nor is a switch.
-    ensures switched { (size : PathSize) (seats : List (PathSeat K)) (end : ℕ) (h : Holding)
-        → IsOutcome size seats end h → (s : PathSeat K) → Contains seats s
-        → (w t made : ℕ) (before after : View)
-        → Switches w t before (SwitchRows WriteGroups made) after
-        → ¬ HasGrown after.trail (view_of s.member).trail }
-{}
-
-/// A flush, or a switch, finds no word for a further memtable of a table only where the seats of
-/// its path opened 255 of them, together. A flush opens one at most; writes, commits and syncs open
-/// none.
-pub fn memtables_need_many_flushes<K: Keeper>()
-    ensures flushed { (size : PathSize) (seats : List (PathSeat K)) (end : ℕ) (h : Holding)
-        → IsOutcome size seats end h → (s : PathSeat K) → Contains seats s → (t : Table) (made : ℕ)
-        → WasFlushed s.member.number t (FlushRows Memtables made) (view_of s.member).trail
-        → 255 ≤ all_opened t.0 seats }
-    ensures switched { (size : PathSize) (seats : List (PathSeat K)) (end : ℕ) (h : Holding)
-        → IsOutcome size seats end h → (s : PathSeat K) → Contains seats s
-        → (w t made : ℕ) (before after : View)
-        → Switches w t before (SwitchRows Memtables made) after
-        → HasGrown after.trail (view_of s.member).trail → 255 ≤ all_opened t seats }
 {}

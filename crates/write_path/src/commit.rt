@@ -24,8 +24,6 @@ pub enum SyncFault {
     },
     /// The keeper wants memory.
     OutOfMemory,
-    /// All groups of the append order that there are words for were made: this many.
-    Rows(u64),
 }
 
 /// What a commit answers.

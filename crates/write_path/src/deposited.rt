@@ -1,7 +1,8 @@
 //! A seat whose entry is deposited: what is left of its write is to place it at its
 //! tables, and to put its updates there.
-ghost use Rattle.std.specs.Prelude.{◌≡◌, ◌^◌, ◌<◌, [], Some, None};
+ghost use Rattle.std.specs.Prelude.{◌≡◌, ◌^◌, ◌<◌, ◌≤◌, [], Some, None};
 ghost use Rattle.path_core.specs.Parts.{HoldsNoTurn};
+ghost use Rattle.path_rule.specs.Issued.{issued_in, opened_in};
 
 use clog_base::Key;
 use path_table::Member;
@@ -29,4 +30,5 @@ pub struct Deposited<K> {
     pub ghost free: { HoldsNoTurn member.seat.me.0.part },
     pub ghost bare: { member.seat.me.1 ≡ [] },
     pub ghost rests: { member.seat.me.0.hands.memtable_box ≡ None },
+    pub ghost paid: { opened_in member.seat.me.0.trail ≤ issued_in member.seat.me.0.trail },
 }

@@ -1,5 +1,5 @@
 //! A write deposits its entry, by one try that is never refused and takes no memory.
-ghost use Rattle.std.specs.Prelude.{◌≡◌, ℕ, ◌+◌, ◌<◌};
+ghost use Rattle.std.specs.Prelude.{◌^◌, ◌≡◌, ℕ, ◌+◌, ◌<◌};
 ghost use Rattle.clog_base.specs.declared.sizes.Sizes.{Sizes};
 ghost use Rattle.clog_mutation.specs.declared.mutation.Mutation.{Mutation};
 ghost use Rattle.op_core.specs.declared.count.Order.TheVariants.{Append};
@@ -26,7 +26,7 @@ impl<K: Keeper, A: Allocator> WritePath<K, A> {
     /// comes back has its updates still, which say the range too.
     pub fn deposit(&self, seat: Claimed<K>, prepared: Prepared) -> (Deposited<K>, Prepared)
         requires table { IsOf self.now.table.table.shared.table_id self.now.table.size seat.member }
-        requires group { seat.group < 65536 }
+        requires group { seat.group < 2 ^ 47 }
         requires prepared { (sizes : Sizes) × (line : ℕ) × (m : Mutation)
             × IsPrepared sizes line m prepared × (seat.start.0 + entry_size m ≡ seat.end.0)
             × (sizes.tables ≡ self.now.table.size.tables) }

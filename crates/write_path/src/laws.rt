@@ -1,26 +1,8 @@
 //! Laws of notes, of writes that a marker stands behind, of how far a sync reaches, of where a log
-//! begins, of what a path runs out of, and of what an answer promises for its close. Each is the
+//! begins, of what spends a path, and of what an answer promises for its close. Each is the
 //! contract of a function that does nothing.
-ghost use Rattle.std.specs.Prelude.{
-  ◌≡◌,
-  ℕ,
-  ◌+◌,
-  ◌-◌,
-  ◌*◌,
-  ◌/◌,
-  ◌^◌,
-  ◌<◌,
-  ◌≤◌,
-  List,
-  [],
-  ◌∷◌,
-  ◌++◌,
-  length,
-  true,
-  Some,
-  None,
-  IsTrue,
-};
+ghost use Rattle.std.specs.Prelude.{◌≡◌, ℕ, ◌+◌, ◌-◌, ◌*◌, ◌/◌, ◌^◌, ◌<◌, ◌≤◌, List, [], ◌∷◌, ◌++◌};
+ghost use Rattle.std.specs.Prelude.{length, true, Some, None, IsTrue};
 ghost use Rattle.std.specs.List.{All, Contains};
 ghost use Rattle.clog_base.specs.declared.cell.Table.{Table};
 ghost use Rattle.clog_base.specs.declared.position.Key.{Key};
@@ -32,27 +14,17 @@ ghost use Rattle.path_core.specs.declared.note.EntryNote.{EntryNote};
 ghost use Rattle.path_core.specs.declared.state.Bound.TheVariants.{Final};
 ghost use Rattle.path_core.specs.History.{IsHistory};
 ghost use Rattle.path_core.specs.Keeper.{Holding, IsFiledIn};
-ghost use Rattle.path_core.specs.Keys.{
-  least_entry,
-  ordinal_of,
-  MovesLog,
-  claimed_size,
-  claim_start,
-};
+ghost use Rattle.path_core.specs.Keys.{least_entry, ordinal_of, MovesLog, claimed_size};
+ghost use Rattle.path_core.specs.Keys.{claim_start};
 ghost use Rattle.path_core.specs.Parts.{is_empty, memtable_of, touches};
 ghost use Rattle.path_core.specs.Whole.{IsWhole};
-ghost use Rattle.path_rule.specs.declared.answer.SyncAnswer.TheVariants.{Done, Rows};
+ghost use Rattle.path_rule.specs.declared.answer.SyncAnswer.TheVariants.{Done};
 ghost use Rattle.path_rule.specs.declared.view.OwnStep.{OwnStep};
 ghost use Rattle.path_rule.specs.declared.view.PathSize.{PathSize};
-ghost use Rattle.path_rule.specs.declared.view.View.{View};
 ghost use Rattle.path_rule.specs.FindsBounds.{FindsFinal, Retires};
 ghost use Rattle.path_rule.specs.Reached.{Reaches};
 ghost use Rattle.path_rule.specs.Trails.{HoldsSome};
 ghost use Rattle.path_table.specs.Members.{view_of};
-ghost use Rattle.sync_core.specs.declared.SyncCore.TheVariants.{Batch};
-ghost use Rattle.write_path.specs.declared.commit.Commit.TheVariants.{Unsynced};
-ghost use Rattle.write_path.specs.declared.commit.Receipt.{Receipt};
-ghost use Rattle.write_path.specs.declared.commit.SyncFault.TheVariants.{Rows as NoRows};
 ghost use Rattle.path_flush.specs.declared.flush_answer.Flush.{Flush};
 ghost use Rattle.path_flush.specs.declared.flush_answer.Flush.TheVariants.{Flushed, Empty};
 ghost use Rattle.write_path.specs.declared.prepared.Prepared.{Prepared};
@@ -61,20 +33,10 @@ ghost use Rattle.write_path.specs.Closed.{IsOutcome, PassesNoSegment, all_writes
 ghost use Rattle.write_path.specs.Commits.{IsLogged};
 ghost use Rattle.path_flush.specs.OwnWrites.{writes_of};
 ghost use Rattle.path_flush.specs.Grown.{HasGrown};
-ghost use Rattle.write_path.specs.Promised.{
-  HasFileFrom,
-  HasVoid,
-  IsUpTo,
-  WasDone,
-  WasDurable,
-  WasFlushed,
-  WasSpent,
-  WasSynced,
-};
-ghost use Rattle.write_path.specs.Receipts.{IsCommitted};
+ghost use Rattle.write_path.specs.Promised.{HasFileFrom, HasVoid, IsUpTo, WasDone, WasDurable};
+ghost use Rattle.write_path.specs.Promised.{WasFlushed, WasSpent, WasSynced};
 ghost use Rattle.write_path.specs.Sealed.{HasMarkBehind, HasMarkBetween, IsSealed};
 ghost use Rattle.write_path.specs.SealedRows.{behind_it, before_it, behind_a_claim};
-ghost use Rattle.write_path.specs.Syncs.{Syncs};
 ghost use Rattle.write_path.specs.Writes.{entry_size, IsNoteOf, IsClaimed, IsDepositable};
 
 use path_core::Keeper;
@@ -220,22 +182,6 @@ pub fn what_spends_a_path<K: Keeper>()
         → All (λ (s : PathSeat K). length (writes_of (view_of s.member).trail) ≤ 8388608) seats
         → 2 ^ 30 < size.ordinals → (s : PathSeat K) → Contains seats s → (bytes key : ℕ)
         → bytes ≤ size.capacity / 2 → ¬ WasSpent size bytes key (view_of s.member).trail }
-{}
-
-/// A path runs out of groups only under many writes: each one was made for a marker, and in front
-/// of each marker stands an entry. So one with fewer than 65,535 writes never answers `Rows`.
-pub fn rows_need_many_writes<K: Keeper>()
-    // A sync that is answered `Rows`.
-    ensures synced { (size : PathSize) (seats : List (PathSeat K)) (end : ℕ) (h : Holding)
-        → IsOutcome size seats end h → (s : PathSeat K) → Contains seats s
-        → (w opened groups : ℕ) (before after : View) → Syncs w opened before (Rows groups) after
-        → HasGrown after.trail (view_of s.member).trail → 65535 ≤ length (all_writes seats) }
-    // A commit that is not synced for that.
-    ensures committed { (size : PathSize) (seats : List (PathSeat K)) (end : ℕ) (h : Holding)
-        → IsOutcome size seats end h → (s : PathSeat K) → Contains seats s
-        → (w groups : ℕ) (before : List OwnStep) (p : Prepared) (r : Receipt) (after : View)
-        → IsCommitted Batch size w before p (Unsynced r (NoRows groups)) after
-        → HasGrown after.trail (view_of s.member).trail → 65535 ≤ length (all_writes seats) }
 {}
 
 /// The log of a path begins in the segment of ordinal 0, and passes over none.

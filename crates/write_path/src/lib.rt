@@ -32,24 +32,21 @@ mod writing;
 pub use accepting::Accept;
 pub use claimed::Claimed;
 pub use claiming::TryClaim;
-pub use closed_laws::{
-    memtables_need_many_flushes, what_a_flush_covers, what_a_retired_memtable_leaves,
-    write_groups_do_not_run_out,
-};
+pub use closed_laws::{what_a_flush_covers, what_a_retired_memtable_leaves};
 pub use closing::Outcome;
 pub use commit::{Commit, Receipt, SyncFault};
 pub use deposited::Deposited;
 pub use fault::PrepareFault;
 pub use laws::{
-    note_laws, rows_need_many_writes, what_a_sync_reaches, what_close_keeps, what_seals_a_write,
-    what_spends_a_path, where_a_log_begins,
+    note_laws, what_a_sync_reaches, what_close_keeps, what_seals_a_write, what_spends_a_path,
+    where_a_log_begins,
 };
-pub use path_flush::{Flush, Row, Switch};
+pub use path_flush::{Flush, Switch};
 pub use path_rounds::Advance;
 pub use path_rule::SyncAnswer;
 pub use path_table::{Begun, PathSeat, Seen};
 pub use prepared::Prepared;
-pub use seats::{Appending, WritePath};
+pub use seats::{Appending, MOST_ISSUED, WritePath};
 pub use switch_laws::{
     only_flushes_retire, what_a_flush_leaves, what_a_switch_tells, what_opens_no_memtable,
 };

@@ -3,19 +3,8 @@
 //!
 //!     PathSeat ── try_start ──▶ Begun ── try_append ──▶ Appending
 //!              ◀──── stop ────        ◀── stop_append ──
-ghost use Rattle.std.specs.Prelude.{
-  ◌≡◌,
-  ℕ,
-  ◌^◌,
-  ◌<◌,
-  ◌≤◌,
-  [],
-  ◌∷◌,
-  length,
-  Some,
-  None,
-  MatchResult,
-};
+ghost use Rattle.std.specs.Prelude.{◌≡◌, ℕ, ◌^◌, ◌<◌, ◌≤◌, [], ◌∷◌, length, Some, None};
+ghost use Rattle.std.specs.Prelude.{MatchResult};
 ghost use Rattle.op_core.specs.declared.count.Order.TheVariants.{Write, Append};
 ghost use Rattle.path_core.specs.declared.event.Carried.TheVariants.{Nothing};
 ghost use Rattle.path_core.specs.declared.event.Event.TheVariants.{Close};
@@ -23,6 +12,7 @@ ghost use Rattle.path_core.specs.Parts.{HoldsNoTurn};
 ghost use Rattle.path_rule.specs.declared.slot.Slot.TheVariants.{Notes};
 ghost use Rattle.path_rule.specs.Boxes.{box_of};
 ghost use Rattle.path_rule.specs.Calls.{Started};
+ghost use Rattle.path_rule.specs.Issued.{issued_in, opened_in};
 ghost use Rattle.path_table.specs.Members.{view_of, IsOf, Stepped};
 ghost use Rattle.path_table.specs.declared.table.Opener.{Opener};
 ghost use Rattle.write_path.specs.declared.resting.Resting.{Resting};
@@ -32,9 +22,13 @@ ghost use Rattle.write_path.specs.Tries.{Joined, OnlyLooked};
 
 use crate::resting::Resting;
 use path_core::Keeper;
-use path_table::{Begun, EXPIRED, Member, Opener, PathSeat, PathTable, Seen};
+use path_table::{Begun, EXPIRED, Member, ONE_GROUP, Opener, PathSeat, PathTable, Seen};
 use std::alloc::Allocator;
 use sync_core::SyncCore;
+
+/// How many barriers a seat may have issued before a commit, a sync, a switch or a flush of it:
+/// 2^40, so that numbers of groups and of memtables fit their words.
+pub const MOST_ISSUED: u64 = 1_099_511_627_776;
 
 /// A path that threads share: its words and boxes, the seat that hands out the others until they
 /// are handed out, which rests there, and how its commits are made lasting.
@@ -65,6 +59,7 @@ pub struct Appending<K> {
     pub ghost carries: { member.seat.me.1
         ≡ (box_of member.number group, Notes member.seat.me.0.hands.notes) ∷ [] },
     pub ghost few: { length member.seat.me.0.hands.notes ≤ 2 ^ 62 },
+    pub ghost paid: { opened_in member.seat.me.0.trail ≤ issued_in member.seat.me.0.trail },
 }
 
 impl<K: Keeper, A: Allocator> WritePath<K, A> {
@@ -74,7 +69,7 @@ impl<K: Keeper, A: Allocator> WritePath<K, A> {
         requires { IsOf self.now.table.table.shared.table_id self.now.table.size seat.member }
         ensures same { MatchResult result
             (λ b. Stays self.now.table.table.shared.table_id self.now.table.size seat.member
-            b.member × (b.group < 65536))
+            b.member × (b.group < 2 ^ 47))
             (λ r. Stays self.now.table.table.shared.table_id self.now.table.size seat.member
             r.0.member) }
         ensures step { MatchResult result
@@ -93,7 +88,7 @@ impl<K: Keeper, A: Allocator> WritePath<K, A> {
         requires { IsOf self.now.table.table.shared.table_id self.now.table.size seat.member }
         ensures same { MatchResult result
             (λ a. Stays self.now.table.table.shared.table_id self.now.table.size seat.member
-            a.member × (a.writing ≡ seat.group) × (a.group < 65536))
+            a.member × (a.writing ≡ seat.group) × (a.group < 2 ^ 47))
             (λ r. Stays self.now.table.table.shared.table_id self.now.table.size seat.member
             r.0.member × (r.0.group ≡ seat.group)) }
         ensures step { MatchResult result
@@ -107,7 +102,7 @@ impl<K: Keeper, A: Allocator> WritePath<K, A> {
         } = seat;
         let group = self.table.look_append(&mut member);
         let looked = self.table.look_appenders(&mut member, group);
-        if looked >= EXPIRED {
+        if looked >= EXPIRED || looked / ONE_GROUP != group {
             let seen = Seen {
                 looked,
                 found: looked,
@@ -141,7 +136,7 @@ impl<K: Keeper, A: Allocator> WritePath<K, A> {
     /// Leaves the append order, before a claim. The box goes home.
     pub fn stop_append(&self, seat: Appending<K>) -> Begun<K>
         requires table { IsOf self.now.table.table.shared.table_id self.now.table.size seat.member }
-        requires group { seat.group < 65536 }
+        requires group { seat.group < 2 ^ 47 }
         ensures same { Stays self.now.table.table.shared.table_id self.now.table.size seat.member
             result.member × (result.group ≡ seat.writing) }
         ensures step { (n : ℕ) × Stepped seat.member
@@ -162,7 +157,7 @@ impl<K: Keeper, A: Allocator> WritePath<K, A> {
     /// Leaves the write order, before a claim.
     pub fn stop(&self, seat: Begun<K>) -> PathSeat<K>
         requires table { IsOf self.now.table.table.shared.table_id self.now.table.size seat.member }
-        requires group { seat.group < 65536 }
+        requires group { seat.group < 2 ^ 47 }
         ensures same { Stays self.now.table.table.shared.table_id self.now.table.size seat.member
             result.member }
         ensures step { (n : ℕ) × Stepped seat.member

@@ -1,15 +1,5 @@
 //! What the answers of a switch say, on worked rows, and what it leaves. Nothing here runs.
-ghost use Rattle.std.specs.Prelude.{
-  ◌≡◌,
-  ◌≢◌,
-  ℕ,
-  ◌+◌,
-  ◌++◌,
-  List,
-  [],
-  Option,
-  None,
-};
+ghost use Rattle.std.specs.Prelude.{◌≡◌, ◌≢◌, ℕ, ◌+◌, ◌++◌, List, [], Option, None};
 ghost use Rattle.clog_base.specs.declared.cell.Table.{Table};
 ghost use Rattle.path_rule.specs.declared.answer.SyncAnswer.{SyncAnswer};
 ghost use Rattle.path_rule.specs.declared.view.OwnStep.{OwnStep};
@@ -22,17 +12,10 @@ ghost use Rattle.sync_core.specs.declared.SyncCore.{SyncCore};
 ghost use Rattle.write_path.specs.declared.commit.Commit.{Commit};
 ghost use Rattle.write_path.specs.declared.prepared.Prepared.{Prepared};
 ghost use Rattle.path_flush.specs.OwnWrites.{writes_of};
-ghost use Rattle.path_flush.specs.declared.switch_answer.Row.TheVariants.{Memtables};
 ghost use Rattle.path_flush.specs.Opens.{opens};
-ghost use Rattle.path_flush.specs.Switched.{FindsLast};
 ghost use Rattle.write_path.specs.SwitchedRows.{found_alone, found_both, found_taken, switched_at};
-ghost use Rattle.path_flush.specs.FlushSteps.{
-  AreFlushSteps,
-  Finalises,
-  FlushSteps,
-  SwitchesAlone,
-  SwitchesNone,
-};
+ghost use Rattle.path_flush.specs.FlushSteps.{AreFlushSteps, Finalises, FlushSteps, SwitchesAlone};
+ghost use Rattle.path_flush.specs.FlushSteps.{SwitchesNone};
 ghost use Rattle.write_path.specs.Receipts.{IsCommitted};
 ghost use Rattle.write_path.specs.Syncs.{Syncs};
 ghost use Rattle.write_path.specs.Unretired.{GrowsUnretired};
@@ -49,18 +32,17 @@ pub fn what_a_switch_tells()
         × (writes_of (switched_at 0 60 ++ before) ≡ writes_of before) }
     // They are of table 0, and none of a switch of table 1.
     ensures other { ¬ AreFlushSteps 0 1 (switched_at 0 60) }
-    // A look at a turn that another seat has is no act, and a switch is five steps, of which one
+    // A look at a turn that another seat has is no act, and a switch is six steps, of which one
     // is a look.
     ensures looked { (before : List OwnStep) → acts (found_taken ++ before) ≡ acts before }
-    ensures acted { acts (switched_at 0 60) ≡ 4 }
-    // The last memtable that has a word is 255, and finding it the newest and the least one that
-    // is not retired switches nothing.
-    ensures full { FindsLast Memtables 0 255 (found_alone 255) }
+    ensures acted { acts (switched_at 0 60) ≡ 5 }
+    // Finding a memtable the newest and the least one that is not retired switches nothing.
+    ensures unswitched { SwitchesNone (found_alone 7) }
     ensures switched { SwitchesNone (switched_at 0 60) → ⊥ }
     // The switch opens one memtable of table 0, and none of table 1.
     ensures opened { opens 0 (switched_at 0 60) ≡ 1 }
     ensures opened_other { opens 1 (switched_at 0 60) ≡ 0 }
-    ensures found { opens 0 (found_alone 255) ≡ 0 }
+    ensures found { opens 0 (found_alone 7) ≡ 0 }
     // What a flush makes final it had found alone: memtable 0 behind looks that found it so, but
     // neither without them nor in place of one that was found. Of another table nothing is asked.
     ensures alone { SwitchesAlone 0 (switched_at 0 60 ++ found_alone 0) }
@@ -76,12 +58,12 @@ pub fn what_a_switch_tells()
 /// A flush, or a switch, of one table leaves the memtables of all others.
 pub fn what_a_flush_leaves()
     // What it makes final is of its table, and so is what it retires.
-    ensures finals { (w t u m key : ℕ) (v after : View) (s : FlushSteps w t v after)
+    ensures finals { (w t u m key n : ℕ) (v after : View) (s : FlushSteps w t n v after)
         → Finalises w u m key s.steps → u ≡ t }
-    ensures retired { (w t : ℕ) (u : Table) (m : ℕ) (gave : Option ℕ) (v after : View)
-        (s : FlushSteps w t v after) → Retires u m gave s.steps → u.0 ≡ t }
+    ensures retired { (w t n : ℕ) (u : Table) (m : ℕ) (gave : Option ℕ) (v after : View)
+        (s : FlushSteps w t n v after) → Retires u m gave s.steps → u.0 ≡ t }
     // It opens no memtable of another one.
-    ensures opened { (w t u : ℕ) (v after : View) (s : FlushSteps w t v after) → u ≢ t
+    ensures opened { (w t u n : ℕ) (v after : View) (s : FlushSteps w t n v after) → u ≢ t
         → opens u s.steps ≡ 0 }
 {}
 

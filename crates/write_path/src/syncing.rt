@@ -5,11 +5,12 @@
 //! barrier, gathers all boxes behind it, and has the keeper make lasting what is pending; then the
 //! seat is idle again. Where the keeper refused the last sync for memory and no entry came since,
 //! the same marker serves.
-ghost use Rattle.std.specs.Prelude.{ℕ};
+ghost use Rattle.std.specs.Prelude.{ℕ, ◌+◌, ◌^◌, ◌≤◌};
 ghost use Rattle.path_core.specs.declared.event.Cursor.TheVariants.{Synced};
 ghost use Rattle.path_core.specs.declared.event.Event.TheVariants.{Look};
 ghost use Rattle.path_core.specs.declared.event.Place.TheVariants.{CursorWord, Log};
 ghost use Rattle.path_rule.specs.Finds.{Finds};
+ghost use Rattle.path_rule.specs.Issued.{issued_in};
 ghost use Rattle.path_rule.specs.Reached.{MayReach, ReachesFound};
 ghost use Rattle.path_rule.specs.Rounds.{WroteBelow};
 ghost use Rattle.path_rule.specs.SyncAnswers.{IsDoneBy, MayAnswer};
@@ -36,10 +37,11 @@ impl<K: Keeper, A: Allocator> WritePath<K, A> {
         alloc: Global,
         seat: PathSeat<K>,
     ) -> (PathSeat<K>, Option<SyncAnswer>)
-        requires { IsOf self.now.table.table.shared.table_id self.now.table.size seat.member }
+        requires table { IsOf self.now.table.table.shared.table_id self.now.table.size seat.member }
+        requires spends { issued_in (view_of seat.member).trail ≤ 2 ^ 40 }
         ensures same { Stays self.now.table.table.shared.table_id self.now.table.size seat.member
             result.0.member }
-        ensures answer { MayAnswer seat.member.number self.now.table.size.at_open
+        ensures answer { MayAnswer seat.member.number 1 self.now.table.size.at_open
             (view_of seat.member) result.1 (view_of result.0.member) }
         ensures reaches { ReachesFound self.now.table.size.capacity (view_of seat.member).trail
             result.1 }
@@ -75,7 +77,7 @@ impl<K: Keeper, A: Allocator> WritePath<K, A> {
         requires wrote { WroteBelow upto (view_of seat.member).trail }
         ensures same { Stays self.now.table.table.shared.table_id self.now.table.size seat.member
             result.0.member }
-        ensures answer { MayAnswer seat.member.number self.now.table.size.at_open
+        ensures answer { MayAnswer seat.member.number 0 self.now.table.size.at_open
             (view_of seat.member) result.1 (view_of result.0.member) }
         ensures looked { (found : ℕ) × Stepped seat.member
             (Look seat.member.number (CursorWord Synced)) found result.0.member
@@ -99,9 +101,10 @@ impl<K: Keeper, A: Allocator> WritePath<K, A> {
         requires table { IsOf self.now.table.table.shared.table_id self.now.table.size seat.member }
         requires wrote { WroteBelow upto (view_of seat.member).trail }
         requires found { Finds Log upto (view_of seat.member).trail }
+        requires spends { issued_in (view_of seat.member).trail ≤ 2 ^ 40 }
         ensures same { Stays self.now.table.table.shared.table_id self.now.table.size seat.member
             result.0.member }
-        ensures answer { MayAnswer seat.member.number self.now.table.size.at_open
+        ensures answer { MayAnswer seat.member.number 1 self.now.table.size.at_open
             (view_of seat.member) result.1 (view_of result.0.member) }
         ensures reaches { MayReach self.now.table.size.capacity upto result.1 }
     {
@@ -117,20 +120,24 @@ impl<K: Keeper, A: Allocator> WritePath<K, A> {
     /// carries the synced key, at or below which each write of the seat's list ends; it reaches the
     /// log's end as it was found in this call, so other seats' entries up to there last too
     /// (`what_close_keeps`). `Stopped` has the keeper's count of faults at its opening and the
-    /// count that the log tells; after `OutOfMemory` and `Rows` all is pending still. What is
-    /// answered was found, or put, at a step of this call. `Rows` comes where the log was found
-    /// running and the last group current, and a marker is wanted. No clause says that it returns.
+    /// count that the log tells; after `OutOfMemory` all is pending still. What is answered was
+    /// found, or put, at a step of this call. The seat has issued at most 1,099,511,627,776
+    /// barriers before, and issues one more at most: a round that gives no answer issues none. No
+    /// clause says that it returns.
     pub fn sync<R: Wait>(
         &self,
         rt: &R,
         alloc: Global,
         seat: PathSeat<K>,
     ) -> (PathSeat<K>, SyncAnswer)
-        requires { IsOf self.now.table.table.shared.table_id self.now.table.size seat.member }
+        requires table { IsOf self.now.table.table.shared.table_id self.now.table.size seat.member }
+        requires spends { issued_in (view_of seat.member).trail ≤ 2 ^ 40 }
         ensures same { Stays self.now.table.table.shared.table_id self.now.table.size seat.member
             result.0.member }
         ensures syncs { Syncs seat.member.number self.now.table.size.at_open
             (view_of seat.member) result.1 (view_of result.0.member) }
+        ensures issued { issued_in (view_of result.0.member).trail
+            ≤ 1 + issued_in (view_of seat.member).trail }
     {
         let (mut seat, end) = self.log_end(seat);
         for _ in rt.forever() {

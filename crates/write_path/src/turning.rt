@@ -1,22 +1,17 @@
 //! Turns: an idle seat takes the Sync turn, or the Flush turn of a table, by one try, and gives it
 //! back. With the Sync turn it moves the oldest group of an order on by one try.
-ghost use Rattle.std.specs.Prelude.{◌≡◌, ◌<◌, [], IfOk, MatchResult};
+ghost use Rattle.std.specs.Prelude.{◌≡◌, ◌<◌, ◌≤◌, [], IfOk, MatchResult};
 ghost use Rattle.clog_base.specs.declared.cell.Table.{Table};
 ghost use Rattle.path_core.specs.declared.event.Event.TheVariants.{Look};
 ghost use Rattle.path_core.specs.declared.event.Place.TheVariants.{TurnWord};
 ghost use Rattle.path_core.specs.declared.event.Turn.TheVariants.{Sync, Flush};
+ghost use Rattle.path_rule.specs.Issued.{issued_in, opened_in};
 ghost use Rattle.path_rule.specs.Lasts.{shows_of};
 ghost use Rattle.path_rule.specs.Rounds.{RoundSteps};
 ghost use Rattle.path_table.specs.Members.{view_of, IsOf, Stepped};
 ghost use Rattle.path_rounds.specs.Passes.{HasMovedOn, MatchAdvance, RunsStill};
 ghost use Rattle.path_flush.specs.Seats.{Stays};
-ghost use Rattle.path_flush.specs.Turned.{
-  GaveTurn,
-  HoldsDesk,
-  HoldsFlush,
-  HoldsSync,
-  TookTurn,
-};
+ghost use Rattle.path_flush.specs.Turned.{GaveTurn, HoldsDesk, HoldsFlush, HoldsSync, TookTurn};
 
 use crate::seats::WritePath;
 use clog_base::Table;
@@ -37,6 +32,7 @@ pub struct TurnSeat<K> {
     pub turn: Turn,
     pub ghost syncs: { turn ≡ Sync → HoldsSync member.seat.me.0 },
     pub ghost flushes: { (t : Table) → turn ≡ Flush t → HoldsFlush t.0 member.seat.me },
+    pub ghost paid: { opened_in member.seat.me.0.trail ≤ issued_in member.seat.me.0.trail },
 }
 
 impl<K: Keeper, A: Allocator> WritePath<K, A> {
@@ -139,7 +135,7 @@ impl<K: Keeper, A: Allocator> WritePath<K, A> {
         requires turn { seat.old.turn ≡ Sync }
         ensures same { Stays self.now.table.table.shared.table_id self.now.table.size
             seat.old.member seat.new.member × (seat.new.turn ≡ seat.old.turn) }
-        ensures steps { RoundSteps seat.old.member.number [] (view_of seat.old.member)
+        ensures steps { RoundSteps seat.old.member.number 0 [] (view_of seat.old.member)
             (view_of seat.new.member) }
         ensures desk { HoldsDesk (shows_of K.holds) seat.old.member
             → HoldsDesk (shows_of K.holds) seat.new.member }

@@ -1,15 +1,10 @@
 //! A write from its start to its end, by calls that wait.
-ghost use Rattle.std.specs.Prelude.{◌≡◌, ℕ, ◌+◌, ◌<◌};
+ghost use Rattle.std.specs.Prelude.{◌^◌, ◌≡◌, ℕ, ◌+◌, ◌<◌};
 ghost use Rattle.clog_base.specs.declared.sizes.Sizes.{Sizes};
 ghost use Rattle.clog_mutation.specs.declared.mutation.Mutation.{Mutation};
 ghost use Rattle.path_table.specs.Members.{view_of, IsOf};
-ghost use Rattle.write_path.specs.Commits.{
-  HasNoRoom,
-  IsLogged,
-  IsWritten,
-  KeepsMemtables,
-  WritesEndBelow,
-};
+ghost use Rattle.write_path.specs.Commits.{HasNoRoom, IsLogged, IsWritten, IssuesNone};
+ghost use Rattle.write_path.specs.Commits.{KeepsMemtables, WritesEndBelow};
 ghost use Rattle.path_flush.specs.Seats.{Stays};
 ghost use Rattle.write_path.specs.Writes.{IsPrepared, entry_size};
 
@@ -42,7 +37,7 @@ impl<K: Keeper, A: Allocator> WritePath<K, A> {
     // A claimed write is logged, placed and ended: the seat's list is the old one and this write.
     fn log_claimed<G: Gate>(&self, seat: Claimed<K>, prepared: Prepared, gate: &G) -> PathSeat<K>
         requires table { IsOf self.now.table.table.shared.table_id self.now.table.size seat.member }
-        requires groups { (seat.group < 65536) × (seat.writing < 65536) }
+        requires groups { (seat.group < 2 ^ 47) × (seat.writing < 2 ^ 47) }
         requires prepared { (sizes : Sizes) × (line : ℕ) × (m : Mutation)
             × IsPrepared sizes line m prepared × (seat.start.0 + entry_size m ≡ seat.end.0)
             × (sizes.tables ≡ self.now.table.size.tables) }
@@ -51,6 +46,7 @@ impl<K: Keeper, A: Allocator> WritePath<K, A> {
             result.member }
         ensures logged { IsLogged (view_of seat.member).trail seat.member.number seat.start.0
             seat.end.0 prepared (view_of result.member).trail }
+        ensures issued { IssuesNone seat.member result.member }
     {
         let writer = Writer(seat.member.number());
         let (deposited, rest) = self.deposit(seat, prepared);
@@ -63,7 +59,7 @@ impl<K: Keeper, A: Allocator> WritePath<K, A> {
     // Leaves both orders, before a claim.
     fn leave(&self, seat: Appending<K>) -> PathSeat<K>
         requires table { IsOf self.now.table.table.shared.table_id self.now.table.size seat.member }
-        requires groups { (seat.group < 65536) × (seat.writing < 65536) }
+        requires groups { (seat.group < 2 ^ 47) × (seat.writing < 2 ^ 47) }
         ensures same { KeepsMemtables self.now.table.table.shared.table_id self.now.table.size
             seat.member result.member }
         ensures room { (bytes since key : ℕ)
@@ -75,8 +71,8 @@ impl<K: Keeper, A: Allocator> WritePath<K, A> {
     }
 
     /// Writes what was prepared, unless the log has no room for it. It takes no memory, and after
-    /// its claim it is always placed. The gate is told how far it is, up to `Finished`. No clause
-    /// says that it returns.
+    /// its claim it is always placed. The gate is told how far it is, up to `Finished`. It issues
+    /// no barrier. No clause says that it returns.
     pub fn write<R: Wait, G: Gate>(
         &self,
         rt: &R,
@@ -92,6 +88,7 @@ impl<K: Keeper, A: Allocator> WritePath<K, A> {
             result.0.member }
         ensures written { IsWritten self.now.table.size seat.member.number
             (view_of seat.member).trail prepared result.1 (view_of result.0.member) }
+        ensures issued { IssuesNone seat.member result.0.member }
     {
         let writer = Writer(seat.member.number());
         gate.reached(writer, Point::Started);

@@ -1,36 +1,12 @@
 -- Where the log goes on behind a synced key.
-use Rattle.std.proofs.Common.{
-  ◌≡◌,
-  ℕ,
-  ◌+◌,
-  ◌<◌,
-  ◌≤◌,
-  ◌==◌,
-  cond,
-  Bool,
-  true,
-  false,
-  refl,
-  sym,
-  ap,
-  ◌∙◌,
-  subst,
-  arith,
-  ne_eqb,
-}
+use Rattle.std.proofs.Common.{◌≡◌, ℕ, ◌+◌, ◌<◌, ◌≤◌, ◌==◌, cond, Bool, true, false, refl, sym, ap}
+use Rattle.std.proofs.Common.{◌∙◌, subst, arith, ne_eqb}
 use Rattle.std.proofs.lemmas.Bool.{eqb-true, false≢true, lt-ltb}
 use mathlib.Core.Logic.{dite}
 use native.Mathlib.Decide.{ℕ_discrete}
 use Rattle.path_core.specs.declared.state.PathState.{PathState}
-use Rattle.path_core.specs.Keys.{
-  after,
-  behind_marker,
-  first_offset,
-  fits,
-  marker_size,
-  next_segment,
-  offset_of,
-}
+use Rattle.path_core.specs.Keys.{after, behind_marker, first_offset, fits, marker_size}
+use Rattle.path_core.specs.Keys.{next_segment, offset_of}
 use Rattle.path_core.specs.Lawful.{IsLawfulPath}
 use Rattle.path_core.proofs.log.Between.{after_grows}
 use Rattle.path_core.proofs.log.Deposited.{behind_front}
@@ -69,7 +45,7 @@ behind_after capacity key large = by (key == 0) refl
             (let is = eqb-true key 0 e in omega (arith, is, large))))
 
 -- the log goes on no earlier behind a later synced key
-after_rises : (x : PathState) → IsLawfulPath x → (low : ℕ) → low ≤ x.synced
+pub after_rises : (x : PathState) → IsLawfulPath x → (low : ℕ) → low ≤ x.synced
     → after x.capacity low ≤ after x.capacity x.synced
 after_rises x L low le = dite (ℕ_discrete low x.synced)
     (λ same. subst (λ k. after x.capacity k ≤ after x.capacity x.synced) (sym same) (omega arith))

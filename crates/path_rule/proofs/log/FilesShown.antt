@@ -1,29 +1,6 @@
 -- What a keeper shows of table files and segments, as its own lists and as those of the state.
-use Rattle.std.proofs.Common.{
-  ◌≡◌,
-  ◌==◌,
-  ℕ,
-  zero,
-  suc,
-  ◌+◌,
-  ◌*◌,
-  ◌-◌,
-  ◌<◌,
-  ◌≤◌,
-  List,
-  [],
-  ◌∷◌,
-  ◌++◌,
-  length,
-  map,
-  IsTrue,
-  refl,
-  sym,
-  ap,
-  ◌∙◌,
-  subst,
-  arith,
-}
+use Rattle.std.proofs.Common.{◌≡◌, ◌==◌, ℕ, zero, suc, ◌+◌, ◌-◌, ◌<◌, ◌≤◌, List, [], ◌∷◌, ◌++◌}
+use Rattle.std.proofs.Common.{length, map, IsTrue, refl, sym, ap, ◌∙◌, subst, arith}
 use Rattle.std.specs.Prelude.{if◌then◌else◌}
 use Rattle.std.specs.List.{Contains, filter, fold}
 use Rattle.std.proofs.lemmas.Bool.{and_from, and_parts, eq-eqb, eqb-true, le-leb, lt-ltb}
@@ -46,18 +23,10 @@ use Rattle.path_rule.specs.declared.lasting.Beside.{Beside}
 use Rattle.path_rule.specs.declared.lasting.Filed.{Filed}
 use Rattle.path_rule.specs.declared.lasting.PutTable.{PutTable}
 use Rattle.path_rule.specs.declared.view.PathSize.{PathSize}
-use Rattle.path_rule.specs.Filing.{
-  HasFiled,
-  IsPutIn,
-  MayGo,
-  file_range,
-  put_range,
-  retired_in,
-  upper_after,
-  upper_of,
-}
+use Rattle.path_rule.specs.Filing.{HasFiled, IsPutIn, MayGo, file_range, put_range, retired_in}
+use Rattle.path_rule.specs.Filing.{upper_after, upper_of}
 use Rattle.path_rule.specs.Lasts.{lasting_of, put_table, shown}
-use Rattle.path_rule.specs.Limits.{most_memtables}
+use Rattle.path_rule.specs.Limits.{made_below, most_memtables}
 use Rattle.path_rule.specs.Rule.{HasRows}
 use Rattle.path_rule.proofs.log.FilingStays.{written_of}
 
@@ -115,17 +84,19 @@ pub as_many : (files : List PutTable) (written : List WrittenFile)
 as_many files written same = sym (length-map files put_range)
     ∙ (ap (λ (l : List (ℕ × (ℕ × ℕ))). length l) same ∙ length-map written file_range)
 
-retired_few : (x : PathState) → IsLawfulPath x → HasRows x → (n : ℕ) → retired_in x n ≤ 256 * n
-retired_few x L rows zero = omega arith
-retired_few x L rows (suc n) = let few = retired_few x L rows n in
+retired_few : (x : PathState) → IsLawfulPath x → (n : ℕ) → retired_in x n ≤ made_below n x
+unfolding made_below
+retired_few x L zero = omega arith
+retired_few x L (suc n) = let few = retired_few x L n in
     let B = (L.switches.tables n).bounds_rise in let made = B.made in let low = B.oldest_is_made in
-    let long = rows.memtables n in omega arith
+    omega (arith, few, made, low)
 
 pub few_files : {b : Beside} (x : PathState) → IsLawfulPath x → HasRows x → (size : PathSize)
     (filed : Filed) (dropped : List ℕ) → HasFiled b size x filed dropped
     → length filed.files ≤ most_memtables
 few_files x L rows size filed dropped F = let same = as_many filed.files x.files F.ranged in
-    let few = F.few in let most = retired_few x L rows 16 in omega arith
+    let few = F.few in let most = retired_few x L 16 in let all = rows.all in
+    omega (arith, same, few, most, all)
 
 -- ---- which segments may go
 

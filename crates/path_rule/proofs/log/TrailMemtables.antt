@@ -1,34 +1,8 @@
 -- What a seat found of memtables, and what it retired, stays so at each step, and a further step of
 -- the seat tells the like.
-use Rattle.std.proofs.Common.{
-  ◌≡◌,
-  ℕ,
-  suc,
-  ◌+◌,
-  ◌*◌,
-  ◌<◌,
-  ◌≤◌,
-  ◌^◌,
-  Bool,
-  true,
-  false,
-  not,
-  List,
-  Option,
-  Some,
-  None,
-  is_some,
-  [],
-  ◌∷◌,
-  sym,
-  ap,
-  ◌∙◌,
-  subst,
-  refl,
-  ⊎_elim,
-  arith,
-  get_or-set_same,
-}
+use Rattle.std.proofs.Common.{◌≡◌, ℕ, suc, ◌+◌, ◌*◌, ◌<◌, ◌≤◌, ◌^◌, Bool, true, false, not, List}
+use Rattle.std.proofs.Common.{Option, Some, None, is_some, [], ◌∷◌, sym, ap, ◌∙◌, subst, refl}
+use Rattle.std.proofs.Common.{⊎_elim, arith, get_or-set_same}
 use Rattle.std.specs.List.{Contains}
 use Rattle.std.proofs.lemmas.Bool.{false≢true}
 use Rattle.std.proofs.lemmas.List.Elements.{Contains-push}
@@ -40,16 +14,8 @@ use Rattle.path_core.specs.declared.event.Cursor.TheVariants.{Synced, OldestLive
 use Rattle.path_core.specs.declared.event.Event.{Event}
 use Rattle.path_core.specs.declared.event.Event.TheVariants.{Look, Finalise, Put}
 use Rattle.path_core.specs.declared.event.Place.{Place}
-use Rattle.path_core.specs.declared.event.Place.TheVariants.{
-  Bound,
-  Count,
-  Current,
-  CursorWord,
-  Log,
-  Newest,
-  Oldest,
-  TurnWord,
-}
+use Rattle.path_core.specs.declared.event.Place.TheVariants.{Bound, Count, Current, CursorWord, Log}
+use Rattle.path_core.specs.declared.event.Place.TheVariants.{Newest, Oldest, TurnWord}
 use Rattle.path_core.specs.declared.state.Bound.{Bound as BoundOf}
 use Rattle.path_core.specs.declared.state.Bound.TheVariants.{Live, Raising, Final}
 use Rattle.path_core.specs.declared.state.Memtable.{Memtable}
@@ -59,16 +25,8 @@ use Rattle.path_core.specs.declared.state.WrittenFile.{WrittenFile}
 use Rattle.path_core.specs.Allowed.{IsStep}
 use Rattle.path_core.specs.Lawful.{IsLawfulPath, IsLawfulPlacing}
 use Rattle.path_core.specs.Next.{gives_file, next_of, with_bound, with_memtable}
-use Rattle.path_core.specs.Parts.{
-  fresh_memtable,
-  fresh_table,
-  is_empty,
-  key_of_bound,
-  last_upper,
-  memtable_at,
-  memtable_of,
-  table_of,
-}
+use Rattle.path_core.specs.Parts.{fresh_memtable, fresh_table, is_empty, key_of_bound, last_upper}
+use Rattle.path_core.specs.Parts.{memtable_at, memtable_of, table_of}
 use Rattle.path_core.specs.SeatParts.{made_final}
 use Rattle.path_core.specs.Words.{reading}
 use Rattle.path_core.proofs.files.KeepsLast.{new_is_retired}
@@ -81,7 +39,7 @@ use Rattle.path_core.proofs.runs.EveryRun.{placing_of}
 use Rattle.path_rule.specs.declared.view.OwnStep.{OwnStep}
 use Rattle.path_rule.specs.Finds.{Finds, FindsBy}
 use Rattle.path_rule.specs.FindsBounds.{FindsFinalBy, Retires, RetiresBy}
-use Rattle.path_rule.specs.Layout.{bound_word, word_at, word_of}
+use Rattle.path_rule.specs.Layout.{bound_word, word_at, word_for}
 use Rattle.path_rule.specs.Trails.{HasFileFrom, HoldsSome}
 use Rattle.path_rule.proofs.log.RestsEmpty.{holds_some, rests_empty, retired_passed}
 use Rattle.path_rule.proofs.moves.LeavesWrites.{placed_stays}
@@ -96,7 +54,7 @@ GaveTrue x e t filed = (is_some filed ≡ gives_file x e)
 -- What a seat was told at a step is so: at a look, and where it makes a memtable final, what stood
 -- there; where it retires one, whether that gives a table file, and above which key that begins.
 abbrev pub ToldTrue : PathState → Event → ℕ → Option ℕ → Type 0
-ToldTrue x (Look by at) found filed = found ≡ word_of (reading x at)
+ToldTrue x (Look by at) found filed = found ≡ word_for at (reading x at)
 ToldTrue x (Finalise by t m) found filed = found ≡ bound_word (memtable_of x t.0 m).bound
 ToldTrue x (Put by (OldestLive t) value) found filed =
     GaveTrue x (Put by (OldestLive t) value) t.0 filed
@@ -221,7 +179,7 @@ module _ (x : PathState) (L : IsLawfulPath x) where
         → n ≤ (table_of (next_of x e) t.0).oldest_live
     new_retired (Look by at) a told t n F =
         let is : found ≡ (table_of x t.0).oldest_live =
-        told ∙ ap (λ (q : Place). word_of (reading x q)) F.0 in
+        told ∙ ap (λ (q : Place). word_for q (reading x q)) F.0 in
         let same = F.1 in omega arith
     new_retired (Put by (OldestLive u) value) a told t n F = subst
         (λ (k : ℕ). n ≤ (table_of (next_of x (Put by (OldestLive u) value)) k).oldest_live)
@@ -238,7 +196,7 @@ module _ (x : PathState) (L : IsLawfulPath x) where
         → FindsBy (Newest t) m e found → m ≤ (table_of (next_of x e) t.0).newest
     new_newest (Look by at) a told t m F =
         let is : found ≡ (table_of x t.0).newest =
-        told ∙ ap (λ (q : Place). word_of (reading x q)) F.0 in
+        told ∙ ap (λ (q : Place). word_for q (reading x q)) F.0 in
         let same = F.1 in omega arith
     new_newest (Put by cursor value) a told t m F = absurd (let q = F.0 in cc)
     new_newest e a told t m F = absurd F

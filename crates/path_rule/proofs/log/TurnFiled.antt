@@ -8,36 +8,16 @@ use Rattle.path_core.specs.declared.event.Carried.TheVariants.{Nothing, Deposit,
 use Rattle.path_core.specs.declared.event.ClaimKind.TheVariants.{Entry, Marker}
 use Rattle.path_core.specs.declared.event.Cursor.TheVariants.{Synced, OldestLive, Stopped}
 use Rattle.path_core.specs.declared.event.Event.{Event}
-use Rattle.path_core.specs.declared.event.Event.TheVariants.{
-  Look,
-  Register,
-  Close,
-  OpenGroup,
-  MoveCurrent,
-  Expire,
-  Advance,
-  Claim,
-  Switch,
-  Raise,
-  Finalise,
-  TakeTurn,
-  GiveTurn,
-  Put,
-}
+use Rattle.path_core.specs.declared.event.Event.TheVariants.{Look, Register, Close, OpenGroup}
+use Rattle.path_core.specs.declared.event.Event.TheVariants.{MoveCurrent, Expire, Advance, Claim}
+use Rattle.path_core.specs.declared.event.Event.TheVariants.{Switch, Raise, Finalise, TakeTurn}
+use Rattle.path_core.specs.declared.event.Event.TheVariants.{GiveTurn, Put}
 use Rattle.path_core.specs.declared.event.Place.{Place}
-use Rattle.path_core.specs.declared.event.Place.TheVariants.{
-  Count,
-  Current,
-  Oldest,
-  Log,
-  Newest,
-  Bound,
-  TurnWord,
-  CursorWord,
-}
+use Rattle.path_core.specs.declared.event.Place.TheVariants.{Count, Current, Oldest, Log, Newest}
+use Rattle.path_core.specs.declared.event.Place.TheVariants.{Bound, TurnWord, CursorWord}
 use Rattle.path_core.specs.declared.event.Reading.{Reading}
 use Rattle.path_core.specs.declared.event.Reading.TheVariants.{Limit, Number, Operations}
-use Rattle.path_core.specs.declared.event.SwitchPart.TheVariants.{Mark, Open}
+use Rattle.path_core.specs.declared.event.SwitchPart.TheVariants.{Clear, Mark, Open}
 use Rattle.path_core.specs.declared.event.Turn.TheVariants.{Flush, Sync}
 use Rattle.path_core.specs.declared.seat.FoundGroups.{FoundGroups}
 use Rattle.path_core.specs.declared.seat.Seat.{Seat}
@@ -116,6 +96,7 @@ filed_stays (Expire by o g) s found told leaves h = turn_stays _ (λ t q. q) s.s
 filed_stays (Advance by o g) s found told leaves h = kept_filed o _ s h
 filed_stays (Claim by from to Entry) s found told leaves h = h
 filed_stays (Claim by from to Marker) s found told leaves h = turn_stays _ (λ t q. q) s.sync h
+filed_stays (Switch by t m Clear) s found told leaves h = h
 filed_stays (Switch by t m Open) s found told leaves h = h
 filed_stays (Switch by t m Mark) s found told leaves h = h
 filed_stays (Raise by t m to) s (Operations k) told leaves h = h

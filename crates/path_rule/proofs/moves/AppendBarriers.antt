@@ -1,28 +1,9 @@
 -- A barrier of the append order: the group before the current one expires, and the oldest one moves
 -- on.
-use Rattle.std.proofs.Common.{
-  ◌≡◌,
-  ℕ,
-  suc,
-  ◌+◌,
-  ◌*◌,
-  ◌%◌,
-  ◌^◌,
-  ◌<◌,
-  ◌≤◌,
-  length,
-  Option,
-  Some,
-  None,
-  is_some,
-  IsTrue,
-  refl,
-  sym,
-  ap,
-  ◌∙◌,
-  subst,
-  arith,
-}
+use Rattle.op_core.specs.CountWords.{count_word}
+use Rattle.op_core.proofs.CountWords.{expired_word}
+use Rattle.std.proofs.Common.{◌≡◌, ℕ, suc, ◌+◌, ◌*◌, ◌%◌, ◌^◌, ◌<◌, ◌≤◌, length, Option, Some, None}
+use Rattle.std.proofs.Common.{is_some, IsTrue, refl, sym, ap, ◌∙◌, subst, arith}
 use Rattle.std.specs.Prelude.{slice_index}
 use Rattle.std.specs.Option.{option_map}
 use mathlib.Core.Option.{none, some}
@@ -46,39 +27,28 @@ use Rattle.path_rule.specs.declared.view.Role.TheVariants.{Steps}
 use Rattle.path_rule.specs.declared.view.View.{View}
 use Rattle.path_rule.specs.Boxed.{HandsAs, HandsAre}
 use Rattle.path_rule.specs.Lasts.{shown}
-use Rattle.path_rule.specs.Layout.{tally_word}
 use Rattle.path_rule.specs.Rule.{Ruled, view_after}
 use Rattle.path_rule.specs.Told.{Made}
 use Rattle.path_rule.specs.TurnTold.{AppendExpired, AppendAdvanced}
 use Rattle.path_rule.specs.Turns.{TurnSaw, TurnOld, TurnGone}
 use Rattle.path_rule.proofs.boxes.HolderBoxes.{boxed_goes}
-use Rattle.path_rule.proofs.moves.HolderFacts.{
-  expired_word,
-  at_issue,
-  is_held,
-  has,
-  outside,
-  others_free,
-  others_near,
-  exact,
-  current_is,
-  issue_at,
-  hands_now,
-}
+use Rattle.path_rule.proofs.moves.HolderFacts.{at_issue, is_held, has, outside, others_free}
+use Rattle.path_rule.proofs.moves.HolderFacts.{others_near, exact, current_is, issue_at, hands_now}
 use Rattle.path_rule.proofs.moves.Looks.{within, own_part, each_name, each_seat_name}
 use Rattle.path_rule.proofs.moves.Moving.{core_lawful, was, plays}
 use Rattle.path_rule.proofs.places.ReadBack.{rows_stay, count_small}
+use Rattle.path_rule.proofs.places.ShownSteps.{open_shown}
 use Rattle.path_rule.proofs.seats.HolderKnows.{still}
 
 module _ {K : Type 0} (shows : K → Lasting) (o : Beside) (size : PathSize) (slots id : ℕ)
     (m : Me (Slot K) View) (w : ℕ) (mine : m.0.role ≡ Steps w) where
   pub expires : (g c : ℕ) → issue_of m.0.part ≡ Moved Append → TurnSaw Append m.0.part c → suc g ≡ c
-      → m.0.hands.box_taken ≡ None → g < 65536
-      → Allows (Ruled shows o size) slots id m (73 + 2 * g) (λ n. (n + 2 ^ 63) % 2 ^ 64)
-      (AppendExpired (step slots (73 + 2 * g) (2 ^ 63) 0 none) m)
-  expires g c doing saw up empty fits s r _ there low = let n = slice_index s.words (73 + 2 * g) in
+      → m.0.hands.box_taken ≡ None
+      → Allows (Ruled shows o size) slots id m (73 + 2 * (g % 32)) (λ n. (n + 2 ^ 63) % 2 ^ 64)
+      (AppendExpired (step slots (73 + 2 * (g % 32)) (2 ^ 63) 0 none) m)
+  expires g c doing saw up empty s r _ there low =
+      let n = slice_index s.words (73 + 2 * (g % 32)) in
       let x = r.core in let k = tally_of x Append g in
-      let found : n ≡ tally_word k = r.words (Count Append g) fits in
       let e = Expire w Append g in let v' = view_after m.0 e n in
       let law = core_lawful shows o size s r in
       let t = at_issue m.0.part (Moved Append) (λ q. cc) doing in
@@ -88,6 +58,9 @@ module _ {K : Type 0} (shows : K → Lasting) (o : Beside) (size : PathSize) (sl
       let G = (law.orders.counts_stand_for_seats Append).each g in
       let unclosed = G.replaced is (up ∙ now) in let more = current_is_made x law Append in
       let made : g < length x.append.tallies = omega arith in
+      let fits = open_shown x law Append g made unclosed in
+      let found : n ≡ count_word g k = r.words (Count Append g) fits in
+      let few = count_small x law Append g in let numbers = r.rows.groups Append in
       let may : IsStep x e = record {
         seat = within shows o size slots id m w mine s r there;
         is_there = made;
@@ -99,14 +72,14 @@ module _ {K : Type 0} (shows : K → Lasting) (o : Beside) (size : PathSize) (sl
         );
       } in
       let told = ap (λ z. (z + 2 ^ 63) % 2 ^ 64) found
-      ∙ expired_word k unclosed (count_small x law Append g) in
+      ∙ expired_word g k unclosed (omega arith) (omega arith) in
       let rows = rows_stay x e may (λ q. q) r.rows in
       let out = outside shows o size slots id m w mine s r there held in
       let H = hands_of s r there in (
         v',
         keeps,
         tt,
-        plays shows o size s r id w m.0 there mine e refl may tt tt fits rows
+        plays shows o size s r id w m.0 there mine e refl may tt tt fits tt rows
             ((n + 2 ^ 63) % 2 ^ 64) n None m.0.hands told refl tt m.1 keeps
             (boxed_goes shows size.seats x.notes (shown o size.at_open r.kept_to r.filed r.dropped
             x) x.claims x.claims
@@ -119,9 +92,11 @@ module _ {K : Type 0} (shows : K → Lasting) (o : Beside) (size : PathSize) (sl
             r.boxed.stamped (λ l. let S = H.swept l in
             record { holds = still_held m.0.part held; passed = S.passed; empty = S.empty }))
             tt (refl, refl, refl, refl) tt tt,
-        (λ z q role _ word. each_name shows o size slots id m w mine 73 g
+        (λ z q c' role saw' up'. each_name shows o size slots id m w mine g
             (λ z q. Made z (Expire z Append q) n m (v', m.1))
-            ((refl, was shows o size s r id w m.0 there mine e may tt), refl) z q role word),
+            ((refl, was shows o size s r id w m.0 there mine e may tt), refl) z q role
+            (let both = now ∙ sym (current_is shows o size slots id m w mine s r there held c' saw')
+            in omega arith)),
       )
     where
       hands_of : (s : State (Slot K) View) (r : Ruled shows o size s)
@@ -174,7 +149,7 @@ module _ {K : Type 0} (shows : K → Lasting) (o : Beside) (size : PathSize) (sl
         keeps,
         tt,
         plays shows o size s r id w m.0 there mine e refl may tt tt tt
-            (rows_stay x e may (λ q. q) r.rows) g g None m.0.hands refl refl tt m.1 keeps
+            tt (rows_stay x e may (λ q. q) r.rows) g g None m.0.hands refl refl tt m.1 keeps
             (boxed_goes shows size.seats x.notes (shown o size.at_open r.kept_to r.filed r.dropped
             x) x.claims x.claims
             x.append

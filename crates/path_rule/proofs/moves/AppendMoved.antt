@@ -1,29 +1,7 @@
 -- A barrier of the append order is issued: the next group is the current one, and the last marker
 -- has its barrier.
-use Rattle.std.proofs.Common.{
-  ◌≡◌,
-  ℕ,
-  zero,
-  suc,
-  ◌<◌,
-  Bool,
-  false,
-  true,
-  List,
-  [],
-  ◌∷◌,
-  length,
-  map,
-  Some,
-  None,
-  refl,
-  sym,
-  ap,
-  ◌∙◌,
-  subst,
-  ⊎_elim,
-  arith,
-}
+use Rattle.std.proofs.Common.{◌≡◌, ℕ, zero, suc, ◌<◌, Bool, false, true, List, [], ◌∷◌, length, map}
+use Rattle.std.proofs.Common.{Some, None, refl, sym, ap, ◌∙◌, subst, ⊎_elim, arith}
 use Rattle.std.specs.Prelude.{if◌then◌else◌, ◌⊎◌, is_none, ◌&&◌, ◌==◌}
 use Rattle.std.proofs.lemmas.Bool.{false≢true, and_from, eq-eqb}
 use Rattle.std.proofs.lemmas.List.{length-map}
@@ -47,12 +25,8 @@ use Rattle.path_core.specs.LawfulOrders.{made_at}
 use Rattle.path_core.specs.Next.{next_of, barred_marker}
 use Rattle.path_core.specs.Parts.{marker_of, seat_of, issue_of, is_marker}
 use Rattle.path_core.specs.SeatAfter.{seat_after}
-use Rattle.path_core.proofs.log.MarkerSteps.{
-  last_is_marker,
-  last_marker_barred,
-  barred_start,
-  barred_is_marker,
-}
+use Rattle.path_core.proofs.log.MarkerSteps.{last_is_marker, last_marker_barred, barred_start}
+use Rattle.path_core.proofs.log.MarkerSteps.{barred_is_marker}
 use Rattle.path_core.proofs.log.MarkerTells.{marker_exact}
 use Rattle.path_rule.specs.declared.lasting.Beside.{Beside}
 use Rattle.path_rule.specs.declared.lasting.Lasting.{Lasting}
@@ -71,16 +45,8 @@ use Rattle.path_rule.specs.Told.{MadeAs}
 use Rattle.path_rule.specs.TurnTold.{AppendMoved}
 use Rattle.path_rule.specs.Turns.{TurnSaw, MarkerWaits}
 use Rattle.path_rule.proofs.boxes.HolderBoxes.{boxed_goes}
-use Rattle.path_rule.proofs.moves.HolderFacts.{
-  at_issue,
-  is_held,
-  outside,
-  others_free,
-  others_near,
-  current_is,
-  issue_at,
-  hands_now,
-}
+use Rattle.path_rule.proofs.moves.HolderFacts.{at_issue, is_held, outside, others_free, others_near}
+use Rattle.path_rule.proofs.moves.HolderFacts.{current_is, issue_at, hands_now}
 use Rattle.path_rule.proofs.moves.Looks.{within, own_part, each_seat_name}
 use Rattle.path_rule.proofs.moves.Moving.{core_lawful, was, plays}
 use Rattle.path_rule.proofs.places.ReadBack.{rows_stay}
@@ -166,7 +132,7 @@ module _ {K : Type 0} (shows : K → Lasting) (o : Beside) (size : PathSize) (sl
         keeps,
         tt,
         plays shows o size s r id w m.0 there mine e refl may tt tt tt
-            (rows_stay x e may (λ q. q) r.rows) g c None h refl
+            tt (rows_stay x e may (λ q. q) r.rows) g c None h refl
             (ap (λ k. seat_after m.0.part e (Number k) (told_by None h)) now) tt m.1 keeps
             (boxed_goes shows size.seats x.notes (shown o size.at_open r.kept_to r.filed r.dropped
             x) x.claims (next_of

@@ -1,32 +1,11 @@
 -- A writer joins a group of the append order, with its box, and leaves it before a claim.
-use Rattle.std.proofs.Common.{
-  ◌≡◌,
-  ◌≢◌,
-  ℕ,
-  ◌+◌,
-  ◌-◌,
-  ◌*◌,
-  ◌%◌,
-  ◌^◌,
-  ◌<◌,
-  ◌≤◌,
-  eqb,
-  List,
-  ◌∷◌,
-  set,
-  Option,
-  Some,
-  None,
-  is_some,
-  refl,
-  sym,
-  ap,
-  ◌∙◌,
-  subst,
-  ⊎_elim,
-  arith,
-  length,
-}
+use Rattle.op_core.specs.CountWords.{count_word, number_in}
+use Rattle.op_core.proofs.CountWords.{less_word, more_word}
+use Rattle.std.proofs.lemmas.Option.{same_Some}
+use Rattle.path_rule.proofs.places.ShownSteps.{group_shown, number_shows}
+use Rattle.std.proofs.Common.{◌≡◌, ◌≢◌, ℕ, ◌+◌, ◌-◌, ◌*◌, ◌%◌, ◌^◌, ◌<◌, ◌≤◌, eqb, List, ◌∷◌, set}
+use Rattle.std.proofs.Common.{Option, Some, None, is_some, refl, sym, ap, ◌∙◌, subst, ⊎_elim, arith}
+use Rattle.std.proofs.Common.{length}
 use Rattle.std.specs.Prelude.{slice_index, IsSome}
 use mathlib.Core.Logic.{inl}
 use mathlib.Core.Option.{none, some}
@@ -58,23 +37,15 @@ use Rattle.path_rule.specs.Boxed.{HandsAs, Boxed}
 use Rattle.path_rule.specs.Boxes.{box_of, boxes, HasOwn, HoldsAs, IsFree, NotesAre}
 use Rattle.path_rule.specs.HandsAfter.{with_notes}
 use Rattle.path_rule.specs.Lasts.{shown}
-use Rattle.path_rule.specs.Layout.{tally_word}
 use Rattle.path_rule.specs.Rule.{Knows, Ruled, view_after, with_hands}
 use Rattle.path_rule.specs.Told.{Took, Joined, Withdrew, MadeAs, Made}
 use Rattle.path_rule.proofs.boxes.FewNotes.{few_kept}
 use Rattle.path_rule.proofs.boxes.HeldBoxes.{boxed_take, boxed_give}
 use Rattle.path_rule.proofs.moves.LeavesWrites.{FirstBelow}
-use Rattle.path_rule.proofs.moves.Looks.{
-  Owes,
-  as_part,
-  within,
-  below,
-  look_owes,
-  each_name,
-  own_part,
-}
+use Rattle.path_rule.proofs.moves.Looks.{Owes, as_part, within, below, look_owes, each_name}
+use Rattle.path_rule.proofs.moves.Looks.{own_part}
 use Rattle.path_rule.proofs.moves.Moving.{core_lawful, enough_boxes, was, plays, columns_now}
-use Rattle.path_rule.proofs.moves.StepFacts.{more_word, less_word, known_groups}
+use Rattle.path_rule.proofs.moves.StepFacts.{known_groups}
 use Rattle.path_rule.proofs.places.ReadBack.{rows_stay}
 
 module _ {K : Type 0} (shows : K → Lasting) (o : Beside) (size : PathSize) (slots id : ℕ)
@@ -128,17 +99,22 @@ module _ {K : Type 0} (shows : K → Lasting) (o : Beside) (size : PathSize) (sl
         omega arith
 
   pub joins : (g k : ℕ) → IsSome m.0.part.write → m.0.part.append ≡ None → m.0.part.claim ≡ None
-      → HoldsNoTurn m.0.part → (found_of Append m.0.part).current ≡ Some g → k < 2 ^ 63 → g < 65536
-      → Allows (Ruled shows o size) slots id m (73 + 2 * g) (λ n. either (eqb n k) (k + 1) n)
-      (Joined (step slots (73 + 2 * g) k (k + 1) none) m)
-  joins g k write outside unclaimed bare saw low fits s r _ there _ = let n =
-      slice_index s.words (73 + 2 * g) in let x = r.core in let c = tally_of x Append g in
-      let found : n ≡ tally_word c = r.words (Count Append g) fits in
-      let then = Joined (step slots (73 + 2 * g) k (k + 1) none) m n in
-      exchanged n k (k + 1) (λ z. Owes shows o size slots id m w mine s (73 + 2 * g) z then)
+      → HoldsNoTurn m.0.part → (found_of Append m.0.part).current ≡ Some g → number_in k ≡ g
+      → k < 2 ^ 63
+      → Allows (Ruled shows o size) slots id m (73 + 2 * (g % 32)) (λ n. either (eqb n k) (k + 1) n)
+      (Joined (step slots (73 + 2 * (g % 32)) k (k + 1) none) m)
+  joins g k write outside unclaimed bare saw number low s r _ there _ =
+      let i : ℕ = 73 + 2 * (g % 32) in let n = slice_index s.words i in let x = r.core in
+      let c = tally_of x Append g in
+      let then = Joined (step slots i k (k + 1) none) m n in
+      exchanged n k (k + 1) (λ z. Owes shows o size slots id m w mine s i z then)
       (λ hit. let e = Register w Append g in
       let is = as_part shows o size slots id m w mine s r there in
-      let more = more_word c (omega arith) in let box = box_of w g in
+      let fits = number_shows x (core_lawful shows o size s r) r.rows s.words r.words Append g
+      (below shows o size slots id m w mine s r there (Count Append g) (inl saw))
+      (ap number_in hit ∙ number) in
+      let found : n ≡ count_word g c = r.words (Count Append g) fits in
+      let more = more_word g c (omega arith) in let box = box_of w g in
       let ns = r.boxed.contents box in let h = with_notes ns m.0.hands in
       let v' = view_after (with_hands h m.0) e (k + 1) in
       let made = below shows o size slots id m w mine s r there (Count Append g) (inl saw) in
@@ -172,12 +148,12 @@ module _ {K : Type 0} (shows : K → Lasting) (o : Beside) (size : PathSize) (sl
       r)
       (shown o size.at_open r.kept_to r.filed r.dropped x)
       x.claims x.append s.homes s.views r.boxed box in omega arith) in
-      let C = columns_now shows o size s r id w m.0 there mine e refl may tt tt fits rows (k + 1)
+      let C = columns_now shows o size s r id w m.0 there mine e refl may tt tt fits tt rows (k + 1)
       (k + 1) None h now refl in (
         v',
         takes box home.0,
         home.1,
-        plays shows o size s r id w m.0 there mine e refl may tt tt fits rows (k + 1)
+        plays shows o size s r id w m.0 there mine e refl may tt tt fits tt rows (k + 1)
             (k + 1) None h now refl tt m.1 (takes box home.0)
             (boxed_take shows size.seats x.notes (shown o size.at_open r.kept_to r.filed r.dropped
             x) x.claims x.claims
@@ -185,38 +161,41 @@ module _ {K : Type 0} (shows : K → Lasting) (o : Beside) (size : PathSize) (sl
             (next_of x e).append s.homes s.views r.boxed id w m.0 v' there mine refl refl refl
             (λ i g l _ _. (l, refl)) refl C.issue g outside C.append refl) tt
             (refl, refl, refl, refl) (own_low s r there g) tt,
-        (λ z q role _ word. each_name shows o size slots id m w mine 73 g
+        (λ z q role word told. each_name shows o size slots id m w mine g
             (λ z q. (n ≡ k → ((notes : List EntryNote)
             × MadeAs z (Register z Append q) (k + 1) (with_notes notes m.0.hands) m.0 v')
             × Took (box_of z q) m (v', (box, home.0) ∷ m.1))
-            × (n ≢ k → Made z (Look z (Count Append q)) n m (v', (box, home.0) ∷ m.1))) (
+            × (n ≢ k
+            → Made z (Look z (Count Append (number_in n))) n m (v', (box, home.0) ∷ m.1))) (
               (λ _. (
                 (ns, (refl, was shows o size s r id w m.0 there mine e may tt)),
                 (home.0, refl, home.2.notes (omega arith), few),
               )),
               (λ miss. absurd (miss hit)),
             ) z q role
-            word),
+            (sym number ∙ told)),
       ))
-      (λ miss. let v' = view_after m.0 (Look w (Count Append g)) n in
-      look_owes shows o size slots id m w mine s r there (Count Append g) fits (inl saw) then
-      (λ made _ z h role _ word.
-      each_name shows o size slots id m w mine 73 g (λ z q. (n ≡ k → ((notes : List EntryNote)
+      (λ miss. let v' = view_after m.0 (Look w (Count Append (number_in n))) n in
+      look_owes shows o size slots id m w mine s r there (Count Append g) tt (inl saw) then
+      (λ made _ z h role word told.
+      each_name shows o size slots id m w mine g (λ z q. (n ≡ k → ((notes : List EntryNote)
       × MadeAs z (Register z Append q) (k + 1) (with_notes notes m.0.hands) m.0 v')
       × Took (box_of z q) m (v', m.1))
-      × (n ≢ k → Made z (Look z (Count Append q)) n m (v', m.1)))
-      ((λ hit. absurd (miss hit)), (λ _. made)) z h role word))
+      × (n ≢ k → Made z (Look z (Count Append (number_in n))) n m (v', m.1)))
+      ((λ hit. absurd (miss hit)), (λ _. made)) z h role (sym number ∙ told)))
 
   pub withdraws : (g : ℕ) (y : Slot K) (cs : List (ℕ × Slot K)) → m.0.part.append ≡ Some g
-      → m.0.part.claim ≡ None → m.1 ≡ (box_of w g, y) ∷ cs → NotesAre y m.0.hands.notes → g < 65536
-      → Allows (Ruled shows o size) slots id m (73 + 2 * g) (λ n. (n + (2 ^ 64 - 1)) % 2 ^ 64)
-      (Withdrew (step slots (73 + 2 * g) 1 0 none) m)
-  withdraws g y cs append claim holds kept fits s r _ there low = let n =
-      slice_index s.words (73 + 2 * g) in let x = r.core in let c = tally_of x Append g in
-      let found : n ≡ tally_word c = r.words (Count Append g) fits in
+      → m.0.part.claim ≡ None → m.1 ≡ (box_of w g, y) ∷ cs → NotesAre y m.0.hands.notes
+      → Allows (Ruled shows o size) slots id m (73 + 2 * (g % 32))
+      (λ n. (n + (2 ^ 64 - 1)) % 2 ^ 64)
+      (Withdrew (step slots (73 + 2 * (g % 32)) 1 0 none) m)
+  withdraws g y cs append claim holds kept s r _ there low = let n =
+      slice_index s.words (73 + 2 * (g % 32)) in let x = r.core in let c = tally_of x Append g in
       let e = Close w Append g Nothing in
       let here = own_part shows o size slots id m w mine s r there (λ (p : SeatOf). p.append)
       (Some g) append in
+      let fits = group_shown x (core_lawful shows o size s r) Append w g here in
+      let found : n ≡ count_word g c = r.words (Count Append g) fits in
       let made = group_made x (core_lawful shows o size s r) Append w g here in
       let v' = view_after m.0 e n in
       let may : IsStep x e = record {
@@ -229,15 +208,15 @@ module _ {K : Type 0} (shows : K → Lasting) (o : Beside) (size : PathSize) (sl
         );
       } in
       let now = ap (λ z. (z + (2 ^ 64 - 1)) % 2 ^ 64) found
-      ∙ less_word c (some_left x (core_lawful shows o size s r) Append w g here)
+      ∙ less_word g c (some_left x (core_lawful shows o size s r) Append w g here)
       (subst (λ z. z < 2 ^ 64) found low) in
       let rows = rows_stay x e may (λ q. q) r.rows in
-      let C = columns_now shows o size s r id w m.0 there mine e refl may tt tt fits rows
+      let C = columns_now shows o size s r id w m.0 there mine e refl may tt tt fits tt rows
       ((n + (2 ^ 64 - 1)) % 2 ^ 64) n None m.0.hands now refl in (
         v',
         gives,
         tt,
-        plays shows o size s r id w m.0 there mine e refl may tt tt fits rows
+        plays shows o size s r id w m.0 there mine e refl may tt tt fits tt rows
             ((n + (2 ^ 64 - 1)) % 2 ^ 64) n None m.0.hands now refl tt m.1 gives
             (subst (λ l. Boxed shows size.seats x.notes (shown o size.at_open r.kept_to r.filed
             r.dropped x) x.claims (next_of x
@@ -251,7 +230,8 @@ module _ {K : Type 0} (shows : K → Lasting) (o : Beside) (size : PathSize) (sl
             (enough_boxes shows o size s r) (low_seat s r there))) tt
             (refl, refl, refl, refl)
             (subst (λ l. FirstBelow (boxes size.seats) l) (sym holds) (own_low s r there g)) tt,
-        (λ z q role _ word. each_name shows o size slots id m w mine 73 g
+        (λ z q role mine'. each_name shows o size slots id m w mine g
             (λ z q. MadeAs z (Close z Append q Nothing) n m.0.hands m.0 v' × (rest m.1 ≡ rest m.1))
-            ((refl, was shows o size s r id w m.0 there mine e may tt), refl) z q role word),
+            ((refl, was shows o size s r id w m.0 there mine e may tt), refl) z q role
+            (same_Some g q (sym append ∙ mine'))),
       )

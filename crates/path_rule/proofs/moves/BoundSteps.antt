@@ -1,28 +1,7 @@
 -- The bound of a memtable is raised: by a write that tries it, or by the holder of the table's
 -- turn.
-use Rattle.std.proofs.Common.{
-  ◌≡◌,
-  ◌≢◌,
-  ℕ,
-  ◌+◌,
-  ◌*◌,
-  ◌^◌,
-  ◌<◌,
-  ◌≤◌,
-  max,
-  length,
-  Option,
-  Some,
-  None,
-  IsSome,
-  refl,
-  sym,
-  ap,
-  ◌∙◌,
-  subst,
-  ◌⊎◌,
-  arith,
-}
+use Rattle.std.proofs.Common.{◌%◌, ◌≡◌, ◌≢◌, ℕ, ◌+◌, ◌*◌, ◌^◌, ◌<◌, ◌≤◌, max, length, Option, Some}
+use Rattle.std.proofs.Common.{None, IsSome, refl, sym, ap, ◌∙◌, subst, ◌⊎◌, arith}
 use Rattle.std.specs.Prelude.{slice_index}
 use Rattle.std.proofs.lemmas.Bool.{false≢true}
 use Rattle.std.proofs.lemmas.Option.{same_Some}
@@ -51,7 +30,7 @@ use Rattle.path_rule.specs.declared.view.PathSize.{PathSize}
 use Rattle.path_rule.specs.declared.view.Role.TheVariants.{Steps}
 use Rattle.path_rule.specs.declared.view.View.{View}
 use Rattle.path_rule.specs.Lasts.{shown}
-use Rattle.path_rule.specs.Layout.{bound_word, reading_at, word_of}
+use Rattle.path_rule.specs.Layout.{IsNear, bound_word, reading_at, word_of}
 use Rattle.path_rule.specs.Rule.{Ruled, Was, told_by, view_after}
 use Rattle.path_rule.specs.TableTold.{BoundRaised}
 use Rattle.path_rule.specs.Told.{Made}
@@ -60,7 +39,10 @@ use Rattle.path_rule.proofs.log.OwnWrites.{below_log}
 use Rattle.path_rule.proofs.moves.Looks.{acts, as_part, few_tables, own_part, within}
 use Rattle.path_rule.proofs.moves.Moving.{core_lawful, was}
 use Rattle.path_rule.proofs.moves.StepFacts.{same_seat}
-use Rattle.path_rule.proofs.places.ReadBack.{log_small, read_back, rows_stay}
+use Rattle.path_rule.specs.Turns.{KnowsNear}
+use Rattle.path_rule.proofs.places.SamePlace.{same_near}
+use Rattle.path_rule.proofs.places.ShownSteps.{knows_near, tries_near}
+use Rattle.path_rule.proofs.places.ReadBack.{log_small, bound_read, rows_stay}
 
 -- the greater of the two words is the word of the raised bound
 raised_word : (b : BoundOf) (to : ℕ) → b ≢ Live → to < 2 ^ 62
@@ -87,29 +69,43 @@ pub record RaisesNow (x : PathState) (w t f to : ℕ) : Type 0 where
   pub made : f < length (table_of x t).memtables
   pub above : (memtable_of x t f).bound ≢ Live
   pub low : to ≤ x.log
+  pub near : IsNear x t f
   pub raiser : RaisesAsWriter (seat_of x w) t f to ⊎ RaisesAsHolder (seat_of x w) t f to
 
 module _ {K : Type 0} (shows : K → Lasting) (o : Beside) (size : PathSize) (slots id : ℕ)
     (m : Me (Slot K) View) (w : ℕ) (mine : m.0.role ≡ Steps w) where
   -- a step told for every number that the seat, the table, the memtable and the key may go by
   pub each_bound_name : (t : Table) (f to : ℕ) (P : ℕ → Table → ℕ → ℕ → Type 0) → P w t f to
-      → (z : ℕ) (u : Table) (h key : ℕ) → m.0.role ≡ Steps z → t.0 < 16 → u.0 < 16
-      → 131144 + 16 * f + t.0 ≡ 131144 + 16 * h + u.0 → to ≡ key → P z u h key
-  each_bound_name t f to P p z u h key role few low is same =
-      let a : t.0 ≡ u.0 = omega arith in let b : f ≡ h = omega arith in
+      → (z : ℕ) (u : Table) (h key : ℕ) → m.0.role ≡ Steps z → t.0 ≡ u.0 → f ≡ h → to ≡ key
+      → P z u h key
+  each_bound_name t f to P p z u h key role a b same =
       subst (λ (q : ℕ × (ℕ × (ℕ × ℕ))). P q.0 (record { 0 = q.1.0 }) q.1.1.0 q.1.1.1)
       (λ i. (same_seat m.0.role w z mine role i, (a i, (b i, same i)))) p
 
-  pub raises : (t : Table) (f to : ℕ) → t.0 < 16 → f < 256 → t.0 < m.0.size.tables
+  -- of two memtables with words that are near, and share one, the tables and numbers are the same
+  pub same_word : (s : State (Slot K) View) (r : Ruled shows o size s)
+      → get_elem? s.views id ≡ some m.0 → (t u : Table) (f h : ℕ) → t.0 < 16 → u.0 < 16
+      → IsNear r.core t.0 f → KnowsNear m.0.part u.0 h
+      → 136 + 16 * (f % 4) + t.0 ≡ 136 + 16 * (h % 4) + u.0 → (t.0 ≡ u.0) × (f ≡ h)
+  same_word s r there t u f h few low near known is =
+      let a : t.0 ≡ u.0 = omega arith in let L = core_lawful shows o size s r in
+      let part = as_part shows o size slots id m w mine s r there in (
+        a,
+        same_near r.core L t.0 f h near (subst (λ (k : ℕ). IsNear r.core k h) (sym a)
+            (knows_near r.core L w u.0 h (subst (λ (p : Seat). KnowsNear p u.0 h) part known)))
+            (omega arith),
+      )
+
+  pub raises : (t : Table) (f to : ℕ) → t.0 < 16 → t.0 < m.0.size.tables
       → ((s : State (Slot K) View) (r : Ruled shows o size s) → get_elem? s.views id ≡ some m.0
       → RaisesNow r.core w t.0 f to)
-      → Allows (Ruled shows o size) slots id m (131144 + 16 * f + t.0) (λ n. max n (to + 2 ^ 62))
-      (BoundRaised (step slots (131144 + 16 * f + t.0) (to + 2 ^ 62) 0 none) m)
-  raises t f to few small inside now s r _ there _ =
-      let i : ℕ = 131144 + 16 * f + t.0 in let n = slice_index s.words i in let x = r.core in
+      → Allows (Ruled shows o size) slots id m (136 + 16 * (f % 4) + t.0) (λ n. max n (to + 2 ^ 62))
+      (BoundRaised (step slots (136 + 16 * (f % 4) + t.0) (to + 2 ^ 62) 0 none) m)
+  raises t f to few inside now s r _ there _ =
+      let i : ℕ = 136 + 16 * (f % 4) + t.0 in let n = slice_index s.words i in let x = r.core in
       let L = core_lawful shows o size s r in let R = now s r there in
       let b = (memtable_of x t.0 f).bound in
-      let found : n ≡ bound_word b = r.words (Bound t f) (few, small) in
+      let found : n ≡ bound_word b = r.words (Bound t f) (few, R.near) in
       let e = Raise w t f (record { 0 = to }) in let v' = view_after m.0 e n in
       let low = log_small x L in let below = R.low in
       let may : IsStep x e = record {
@@ -117,23 +113,24 @@ module _ {K : Type 0} (shows : K → Lasting) (o : Beside) (size : PathSize) (sl
         is_there = (few_tables shows o size slots id m w mine s r there t.0 inside, R.made);
         row = (R.above, R.raiser);
       } in
-      acts shows o size slots id m w mine s r there e refl may tt tt (few, small)
-      (rows_stay x e may (λ q. q) r.rows) (max n (to + 2 ^ 62)) n
+      acts shows o size slots id m w mine s r there e refl may tt tt (few, R.near)
+      tt (rows_stay x e may (λ q. q) r.rows) (max n (to + 2 ^ 62)) n
       (ap (λ z. max z (to + 2 ^ 62)) found ∙ raised_word b to R.above (omega arith))
       (ap (λ k. seat_after m.0.part e k (told_by None m.0.hands))
-      (ap (reading_at (Bound t f)) found ∙ read_back x L (Bound t f)))
+      (ap (reading_at (Bound t f)) found ∙ bound_read x L t f))
       tt
       (λ C. boxed_stay shows size.seats x.notes
       (shown o size.at_open r.kept_to r.filed r.dropped x) x.claims x.claims x.append x.append
       s.homes s.views r.boxed
       id w m.0 v' there mine refl refl refl (λ i g l _ _. (l, refl)) refl C.append C.issue refl)
       tt tt (BoundRaised (step slots i (to + 2 ^ 62) 0 none) m n)
-      (λ u z h key q role high word first. each_bound_name t f to
+      (λ u z h key q role high known word first.
+      let S = same_word s r there t q f h few high R.near known word in each_bound_name t f to
       (λ z q h key. Made z (Raise z q h (record { 0 = key })) n m (v', m.1)
       × ((was : Was m.0 z (Raise z q h (record { 0 = key })))
       × (word_of (reading was.core (Bound q h)) ≡ n)))
       (((refl, u), refl), (was shows o size s r id w m.0 there mine e may tt, sym found)) z q h key
-      role few high word (omega arith))
+      role S.0 S.1 (omega arith))
 
   -- a write that has deposited, and found the memtable that it tries not to be live
   pub writer_raises : (t f to : ℕ) → RaisesAsWriter m.0.part t f to → (b : BoundOf)
@@ -154,5 +151,6 @@ module _ {K : Type 0} (shows : K → Lasting) (o : Beside) (size : PathSize) (sl
             let own = L.each_claim_noted_once.own w n.0 n.1 in
             let end = ap (λ (r : Range). r.end) (same_Some _ _ (sym now.end ∙ own.range)) in
             let low = below_log x L own.note own.among in omega arith;
+        near = tries_near x L w t f now.trying;
         raiser = inl now;
       }

@@ -1,19 +1,5 @@
 -- A writer claims the range of an entry.
-use Rattle.std.proofs.Common.{
-  ◌≡◌,
-  ◌≢◌,
-  ℕ,
-  ◌<◌,
-  eqb,
-  Some,
-  None,
-  refl,
-  sym,
-  ap,
-  ◌∙◌,
-  subst,
-  arith,
-}
+use Rattle.std.proofs.Common.{◌≡◌, ◌≢◌, ℕ, ◌<◌, eqb, Some, None, refl, sym, ap, ◌∙◌, subst, arith}
 use Rattle.std.specs.List.{Contains}
 use Rattle.std.specs.Prelude.{slice_index, IsSome}
 use Rattle.std.specs.Option.{option_map}
@@ -53,15 +39,8 @@ use Rattle.path_rule.specs.Told.{Claimed, Made}
 use Rattle.path_rule.proofs.boxes.HeldBoxes.{boxed_stay}
 use Rattle.path_rule.proofs.boxes.MemtablesStay.{claimed_puts, runs_else}
 use Rattle.path_rule.proofs.log.OwnWrites.{below_log}
-use Rattle.path_rule.proofs.moves.Looks.{
-  Owes,
-  as_part,
-  within,
-  acts_with,
-  look_owes,
-  each_seat_name,
-  own_part,
-}
+use Rattle.path_rule.proofs.moves.Looks.{Owes, as_part, within, acts_with, look_owes}
+use Rattle.path_rule.proofs.moves.Looks.{each_seat_name, own_part}
 use Rattle.path_rule.proofs.moves.Moving.{core_lawful, known, place_still, puts_now, still_kept}
 use Rattle.path_rule.proofs.moves.StepFacts.{claim_bars}
 use Rattle.path_rule.proofs.places.ReadBack.{rows_stay}
@@ -91,7 +70,7 @@ module _ {K : Type 0} (shows : K → Lasting) (o : Beside) (size : PathSize) (sl
         );
       } in
       acts_with shows o size slots id m w mine s r there e refl may tt tt tt
-      (rows_stay x e may (λ q. q) r.rows) to to refl refl tt
+      tt (rows_stay x e may (λ q. q) r.rows) to to refl refl tt
       (λ C. boxed_stay shows size.seats x.notes (shown o size.at_open r.kept_to r.filed r.dropped x)
       x.claims
       (next_of x e).claims x.append x.append s.homes s.views r.boxed id w m.0 v' there mine refl

@@ -1,34 +1,11 @@
 -- A writer leaves the append order with the note that it put into its box.
-use Rattle.std.proofs.Common.{
-  ◌≡◌,
-  ◌≢◌,
-  ℕ,
-  ◌+◌,
-  ◌-◌,
-  ◌*◌,
-  ◌%◌,
-  ◌^◌,
-  ◌<◌,
-  Bool,
-  false,
-  true,
-  List,
-  [],
-  ◌∷◌,
-  length,
-  set,
-  Option,
-  Some,
-  None,
-  is_some,
-  refl,
-  sym,
-  ap,
-  ◌∙◌,
-  subst,
-  ⊎_elim,
-  arith,
-}
+use Rattle.std.proofs.lemmas.Option.{same_Some}
+use Rattle.op_core.specs.CountWords.{count_word}
+use Rattle.op_core.proofs.CountWords.{less_word}
+use Rattle.path_rule.proofs.places.ShownSteps.{group_shown}
+use Rattle.std.proofs.Common.{◌≡◌, ◌≢◌, ℕ, ◌+◌, ◌-◌, ◌*◌, ◌%◌, ◌^◌, ◌<◌, Bool, false, true, List}
+use Rattle.std.proofs.Common.{[], ◌∷◌, length, set, Option, Some, None, is_some, refl, sym, ap, ◌∙◌}
+use Rattle.std.proofs.Common.{subst, ⊎_elim, arith}
 use Rattle.std.specs.Prelude.{slice_index, ◌++◌, ◌==◌, ◌&&◌, is_none}
 use Rattle.std.proofs.lemmas.Bool.{eq-eqb}
 use Rattle.std.proofs.lemmas.List.{length-replicate}
@@ -67,7 +44,7 @@ use Rattle.path_rule.specs.declared.view.View.{View}
 use Rattle.path_rule.specs.Boxed.{ends_at, Boxed}
 use Rattle.path_rule.specs.Boxes.{box_of, boxes}
 use Rattle.path_rule.specs.Lasts.{shown}
-use Rattle.path_rule.specs.Layout.{reading_at, tally_word}
+use Rattle.path_rule.specs.Layout.{reading_at}
 use Rattle.path_rule.specs.Rule.{told_by, view_after, start_of, Knows, Ruled}
 use Rattle.path_rule.specs.Told.{Deposited, MadeAs}
 use Rattle.path_rule.proofs.boxes.MemtablesStay.{noted_puts, runs_still}
@@ -77,26 +54,10 @@ use Rattle.path_rule.proofs.log.Lending.{lasting_ends}
 use Rattle.path_rule.proofs.moves.AppendSteps.{low_seat, own_low}
 use Rattle.path_rule.proofs.moves.LeavesWrites.{FirstBelow}
 use Rattle.path_rule.proofs.moves.Looks.{as_part, within, each_name, own_part}
-use Rattle.path_rule.proofs.moves.Moving.{
-  core_lawful,
-  enough_boxes,
-  known,
-  was,
-  plays_with,
-  columns_now,
-  memtables_then,
-  place_still,
-  puts_now,
-  still_kept,
-  reads_still,
-}
-use Rattle.path_rule.proofs.moves.StepFacts.{
-  less_word,
-  group_low,
-  last_same,
-  notes_first,
-  lasting_note,
-}
+use Rattle.path_rule.proofs.moves.Moving.{core_lawful, enough_boxes, known, was, plays_with}
+use Rattle.path_rule.proofs.moves.Moving.{columns_now, memtables_then, place_still, puts_now}
+use Rattle.path_rule.proofs.moves.Moving.{still_kept, reads_still}
+use Rattle.path_rule.proofs.moves.StepFacts.{group_low, last_same, notes_first, lasting_note}
 use Rattle.path_rule.proofs.places.ReadBack.{rows_stay}
 
 module _ {K : Type 0} (shows : K → Lasting) (o : Beside) (size : PathSize) (slots id : ℕ)
@@ -104,15 +65,17 @@ module _ {K : Type 0} (shows : K → Lasting) (o : Beside) (size : PathSize) (sl
   pub deposits : (g : ℕ) (note : EntryNote) (cs : List (ℕ × Slot K)) → m.0.part.append ≡ Some g
       → m.0.part.claim ≡ Some (record { start = note.start.0; end = note.end.0 })
       → note.writer.0 ≡ w → note.tables < 2 ^ m.0.size.tables → IsWhole note
-      → m.1 ≡ (box_of w g, Notes (m.0.hands.notes ++ note ∷ [])) ∷ cs → g < 65536
-      → Allows (Ruled shows o size) slots id m (73 + 2 * g) (λ n. (n + (2 ^ 64 - 1)) % 2 ^ 64)
-      (Deposited (step slots (73 + 2 * g) 1 0 none) m)
-  deposits g note cs append claim writer tables whole holds fits s r _ there low = let n =
-      slice_index s.words (73 + 2 * g) in let x = r.core in let c = tally_of x Append g in
-      let found : n ≡ tally_word c = r.words (Count Append g) fits in
+      → m.1 ≡ (box_of w g, Notes (m.0.hands.notes ++ note ∷ [])) ∷ cs
+      → Allows (Ruled shows o size) slots id m (73 + 2 * (g % 32))
+      (λ n. (n + (2 ^ 64 - 1)) % 2 ^ 64)
+      (Deposited (step slots (73 + 2 * (g % 32)) 1 0 none) m)
+  deposits g note cs append claim writer tables whole holds s r _ there low = let n =
+      slice_index s.words (73 + 2 * (g % 32)) in let x = r.core in let c = tally_of x Append g in
       let law = core_lawful shows o size s r in let e = Close w Append g (Deposit note) in
       let here = own_part shows o size slots id m w mine s r there (λ (p : SeatOf). p.append)
       (Some g) append in
+      let fits = group_shown x law Append w g here in
+      let found : n ≡ count_word g c = r.words (Count Append g) fits in
       let range = own_part shows o size slots id m w mine s r there (λ (p : SeatOf). p.claim)
       (Some (record { start = note.start.0; end = note.end.0 })) claim in
       let made = group_made x law Append w g here in let v' = view_after m.0 e n in
@@ -130,9 +93,9 @@ module _ {K : Type 0} (shows : K → Lasting) (o : Beside) (size : PathSize) (sl
         );
       } in
       let now = ap (λ z. (z + (2 ^ 64 - 1)) % 2 ^ 64) found
-      ∙ less_word c (some_left x law Append w g here) (subst (λ z. z < 2 ^ 64) found low) in
+      ∙ less_word g c (some_left x law Append w g here) (subst (λ z. z < 2 ^ 64) found low) in
       let rows = rows_stay x e may (λ q. q) r.rows in
-      let C = columns_now shows o size s r id w m.0 there mine e refl may whole tt fits rows
+      let C = columns_now shows o size s r id w m.0 there mine e refl may whole tt fits tt rows
       ((n + (2 ^ 64 - 1)) % 2 ^ 64) n None m.0.hands now refl in
       let P = puts_now shows o size s r id w m.0 there mine in
       let is = as_part shows o size slots id m w mine s r there in
@@ -142,7 +105,7 @@ module _ {K : Type 0} (shows : K → Lasting) (o : Beside) (size : PathSize) (sl
         v',
         gives,
         tt,
-        plays_with shows o size s r id w m.0 there mine e refl may whole tt fits rows
+        plays_with shows o size s r id w m.0 there mine e refl may whole tt fits tt rows
             ((n + (2 ^ 64 - 1)) % 2 ^ 64) n None m.0.hands now refl tt refl m.1 gives
             (subst (λ (q : Lasting × List (ℕ × Slot K)). Boxed shows size.seats (next_of x e).notes
             q.0 x.claims (next_of x e).append (put_back s.homes q.1) (set s.views id v'))
@@ -172,21 +135,21 @@ module _ {K : Type 0} (shows : K → Lasting) (o : Beside) (size : PathSize) (sl
             (sym (subst (λ ρ. Knows x r.events r.owner r.made r.boss j ρ u.part u.trail
             u.returned) is (r.each_seat j u at).1).0.1
             ∙ (ap r.owner same ∙ (known shows o size s r id w m.0 there mine).1.1)))))
-            (memtables_then shows o size s r id w m.0 there mine e refl may whole tt fits rows
+            (memtables_then shows o size s r id w m.0 there mine e refl may whole tt fits tt rows
             ((n + (2 ^ 64 - 1)) % 2 ^ 64) n None m.0.hands now refl m.1 gives below refl refl refl
             (noted_puts r.memtables.contents size.seats w m.0.part v'.part m.0.hands rests C.claim
             (place_still shows o size s r id w m.0 there mine e (reading_at (Count Append g) n)
             (told_by None m.0.hands) tt) P)
             (still_kept shows o size s r e may tt refl)
             (λ z t k q few h R. inr (runs_still s.views id m.0 v' there refl C.claim z q.end.0 R)))
-            (reads_still shows o size s r id w m.0 there mine e refl may whole tt fits rows
+            (reads_still shows o size s r id w m.0 there mine e refl may whole tt fits tt rows
             ((n + (2 ^ 64 - 1)) % 2 ^ 64) n None m.0.hands now refl tt refl),
-        (λ z q other role _ word has. let same : note
+        (λ z q other role mine' has. let same : note
             ≡ other = last_same m.0.hands.notes note other (ap notes_first (sym holds ∙ has)) in
             subst (λ p. MadeAs z (Close z Append q (Deposit p)) n m.0.hands m.0 v'
             × (rest m.1 ≡ rest m.1) × (m.0.hands.memtable_box ≡ None)
             × ((a : Placed) → Contains m.0.hands.applied a → a.entry ≢ p.end.0)) same
-            (each_name shows o size slots id m w mine 73 g
+            (each_name shows o size slots id m w mine g
             (λ z q. MadeAs z (Close z Append q (Deposit note)) n m.0.hands m.0 v'
             × (rest m.1 ≡ rest m.1) × (m.0.hands.memtable_box ≡ None)
             × ((a : Placed) → Contains m.0.hands.applied a → a.entry ≢ note.end.0)) (
@@ -198,7 +161,7 @@ module _ {K : Type 0} (shows : K → Lasting) (o : Beside) (size : PathSize) (sl
               refl,
               rests,
               λ a put ends. unput s r there note append claim a put ends,
-            ) z q role word)),
+            ) z q role (same_Some g q (sym append ∙ mine')))),
       )
     where
       few_bits : (s : State (Slot K) View) (r : Ruled shows o size s)

@@ -1,19 +1,5 @@
 -- The holder of both turns looks at the synced key before it puts a table file.
-use Rattle.std.proofs.Common.{
-  ◌≡◌,
-  ◌≢◌,
-  ℕ,
-  ◌<◌,
-  ◌≤◌,
-  List,
-  [],
-  Some,
-  sym,
-  ap,
-  ◌∙◌,
-  subst,
-  arith,
-}
+use Rattle.std.proofs.Common.{◌≡◌, ◌≢◌, ℕ, ◌<◌, ◌≤◌, List, [], Some, sym, ap, ◌∙◌, subst, arith}
 use Rattle.std.specs.Prelude.{◌^◌, slice_index}
 use mathlib.Core.Option.{none}
 use Rattle.atomic_table.specs.Table.{Me, step, Allows}
@@ -32,9 +18,11 @@ use Rattle.path_rule.specs.declared.view.PathSize.{PathSize}
 use Rattle.path_rule.specs.declared.view.Role.TheVariants.{Steps}
 use Rattle.path_rule.specs.declared.view.View.{View}
 use Rattle.path_rule.specs.Filing.{MayPut}
+use Rattle.path_rule.specs.Finds.{Finds}
 use Rattle.path_rule.specs.FilingTold.{AreSeen, FiledFound, FoundFinal, SeesAll, next_file}
 use Rattle.path_rule.specs.Rule.{Ruled, view_after}
 use Rattle.path_rule.specs.Told.{Made}
+use Rattle.path_rule.proofs.log.Behind.{after_rises}
 use Rattle.path_rule.proofs.moves.FilingFacts.{may_be_put}
 use Rattle.path_rule.proofs.moves.Looks.{look_owes, each_seat_name}
 use Rattle.path_rule.proofs.moves.Moving.{capacity_is, core_lawful, known}
@@ -56,10 +44,12 @@ module _ {K : Type 0} (shows : K → Lasting) (o : Beside) (size : PathSize) (sl
       → t < m.0.size.tables → SeesAll m.0.size.seats m.0.hands t k q → q.seen ≢ []
       → FoundFinal t m.0.part k bound → bound ≤ after m.0.size.capacity n → AreSeen q t cells
       → MayPut m.0.hands.lasting (next_file m.0.hands.lasting t bound cells) in
+      let Q : Type 0 = (key : ℕ) → Finds (CursorWord Synced) key m.0.trail
+      → after m.0.size.capacity key ≤ after m.0.size.capacity n in
       look_owes shows o size slots id m w mine s r there (CursorWord Synced) tt tt
-      (FiledFound (step slots 5 0 0 none) m n) (λ made _.
+      (FiledFound (step slots 5 0 0 none) m n) (λ made seen.
       each_seat_name shows o size slots id m w mine
-      (λ u. Made u (Look u (CursorWord Synced)) n m (v', m.1) × P × (n < 2 ^ 62)) (
+      (λ u. Made u (Look u (CursorWord Synced)) n m (v', m.1) × P × (n < 2 ^ 62) × Q) (
         made,
         (λ t k bound q cells inside sees some_seen final low seen.
             may_be_put shows o size slots id m w mine s r there (record { 0 = t }) k bound q inside
@@ -67,4 +57,8 @@ module _ {K : Type 0} (shows : K → Lasting) (o : Beside) (size : PathSize) (sl
             sync runs (subst (λ (y : ℕ × ℕ). bound ≤ after y.0 y.1)
             (λ i. (capacity i, found i)) low) cells seen),
         omega arith,
+        λ key F. let low = (seen.0.tells.synced key F).lasting in let at = seen.1 in
+            subst (λ (y : ℕ × ℕ). after y.0 key ≤ after y.0 y.1)
+            (λ i. (sym capacity i, sym found i))
+            (after_rises x L key (omega (arith, low, at, found))),
       ))

@@ -1,39 +1,8 @@
 -- The holder of both turns retires a memtable with the table file that the keeper on the desk has
 -- put.
-use Rattle.std.proofs.Common.{
-  ◌≡◌,
-  ◌≢◌,
-  ℕ,
-  zero,
-  suc,
-  ◌+◌,
-  ◌*◌,
-  ◌<◌,
-  ◌≤◌,
-  not,
-  Bool,
-  true,
-  false,
-  List,
-  [],
-  ◌∷◌,
-  ◌++◌,
-  length,
-  map,
-  set,
-  Some,
-  None,
-  is_some,
-  IsTrue,
-  refl,
-  sym,
-  ap,
-  ◌∙◌,
-  subst,
-  ⊎_elim,
-  arith,
-  get_or-set_same,
-}
+use Rattle.std.proofs.Common.{◌≡◌, ◌≢◌, ℕ, zero, suc, ◌+◌, ◌*◌, ◌<◌, ◌≤◌, not, Bool, true, false}
+use Rattle.std.proofs.Common.{List, [], ◌∷◌, ◌++◌, length, map, set, Some, None, is_some, IsTrue}
+use Rattle.std.proofs.Common.{refl, sym, ap, ◌∙◌, subst, ⊎_elim, arith, get_or-set_same}
 use Rattle.std.specs.List.{Contains}
 use Rattle.std.proofs.lemmas.Bool.{false≢true}
 use Rattle.std.proofs.lemmas.List.{map-append, set-set}
@@ -74,26 +43,11 @@ use Rattle.path_rule.specs.declared.view.Hands.{Hands}
 use Rattle.path_rule.specs.declared.view.PathSize.{PathSize}
 use Rattle.path_rule.specs.declared.view.Role.TheVariants.{Steps}
 use Rattle.path_rule.specs.declared.view.View.{View}
-use Rattle.path_rule.specs.Filing.{
-  HasFiled,
-  IsCellBetween,
-  IsFileOf,
-  file_range,
-  more_filed,
-  put_range,
-  retired_in,
-  upper_of,
-}
+use Rattle.path_rule.specs.Filing.{HasFiled, IsCellBetween, IsFileOf, file_range, more_filed}
+use Rattle.path_rule.specs.Filing.{put_range, retired_in, upper_of}
 use Rattle.clog_cells.specs.Merge.{IsMergeOf}
-use Rattle.path_rule.specs.FilingTold.{
-  AreSeen,
-  CarriesFiled,
-  FoundFinal,
-  MadeFiled,
-  RetiredFiled,
-  SeesAll,
-  next_file,
-}
+use Rattle.path_rule.specs.FilingTold.{AreSeen, CarriesFiled, FoundFinal, MadeFiled, RetiredFiled}
+use Rattle.path_rule.specs.FilingTold.{SeesAll, next_file}
 use Rattle.path_rule.specs.HandsAfter.{with_desk, with_reading}
 use Rattle.path_rule.specs.Lasts.{shown}
 use Rattle.path_rule.specs.Memtables.{HasMemtables, PutsAs}
@@ -105,29 +59,11 @@ use Rattle.path_rule.proofs.boxes.MemtableReads.{read_still, retabled}
 use Rattle.path_rule.proofs.boxes.MemtablesStay.{memtables_stay, puts_stay, runs_still}
 use Rattle.path_rule.proofs.log.FilingStays.{may_still, retired_grows, still_going}
 use Rattle.path_rule.proofs.log.KeptStays.{kept_stays}
-use Rattle.path_rule.proofs.moves.FilingFacts.{
-  ends_at,
-  file,
-  file_of_seen,
-  files_then,
-  filled,
-  live,
-  may,
-  upper_is,
-}
+use Rattle.path_rule.proofs.moves.FilingFacts.{ends_at, file, file_of_seen, files_then, filled}
+use Rattle.path_rule.proofs.moves.FilingFacts.{live, may, upper_is}
 use Rattle.path_rule.proofs.moves.HolderFacts.{outside, others_free, is_held, hands_now}
-use Rattle.path_rule.proofs.moves.Moving.{
-  capacity_is,
-  columns_now,
-  core_lawful,
-  kept_before,
-  known,
-  place_still,
-  plays_all,
-  puts_now,
-  reads_then,
-  was,
-}
+use Rattle.path_rule.proofs.moves.Moving.{capacity_is, columns_now, core_lawful, kept_before, known}
+use Rattle.path_rule.proofs.moves.Moving.{place_still, plays_all, puts_now, reads_then, was}
 use Rattle.path_rule.proofs.moves.StepFacts.{last_same}
 use Rattle.path_rule.proofs.moves.SyncFacts.{turn_exact}
 use Rattle.path_rule.proofs.moves.SyncSteps.{desk_same, top_box}
@@ -318,13 +254,13 @@ module _ {K : Type 0} (shows : K → Lasting) (o : Beside) (size : PathSize) (sl
       final in
       let told = ap (λ (b : Bool). seat_after m.0.part e (Number 0)
       (record { files = b; marker = None })) (sym (ap not gives)) in
-      let columns = columns_now shows o size s r id w m.0 there mine e refl may tt tt few rows
+      let columns = columns_now shows o size s r id w m.0 there mine e refl may tt tt few tt rows
       (suc k) (suc k) (Some put_now.lower) h refl told in
       let out = outside shows o size slots id m w mine s r there held in (
         v',
         keeps,
         tt,
-        plays_all shows o size s r id w m.0 there mine e refl may tt tt few rows (suc k) (suc k)
+        plays_all shows o size s r id w m.0 there mine e refl may tt tt few tt rows (suc k) (suc k)
             (Some put_now.lower) h refl told (sym (ap not gives), lower_given s r there) r.kept_to
             (kept_stays (x s r there) (L s r there) e may r.kept_to r.may_be_kept)
             (put s r there) r.dropped (filed_now s r there) m.1 keeps
@@ -351,7 +287,7 @@ module _ {K : Type 0} (shows : K → Lasting) (o : Beside) (size : PathSize) (sl
             (λ b Q. none-some b (sym (ap (λ (z : FlushRead). z.taken)
             (same_reading Q.0 q Q.1 sees.0) ∙ sees.3) ∙ Q.2)))
             (kept_before shows o size s r e may tt)))
-            (reads_then shows o size s r id w m.0 there mine e refl may tt tt few rows (suc k)
+            (reads_then shows o size s r id w m.0 there mine e refl may tt tt few tt rows (suc k)
             (suc k) (Some put_now.lower) h refl told (λ z is. absurd (none-some z is))),
         λ z u lasting pending role _ word C'. let d = desk_same shows C.0 C'.0
             (more_filed put_now m.0.hands.lasting) lasting m.0.hands.pending pending

@@ -1,32 +1,10 @@
 -- A writer leaves the write order once its write was accepted at each of its tables.
-use Rattle.std.proofs.Common.{
-  ◌≡◌,
-  ℕ,
-  ◌+◌,
-  ◌-◌,
-  ◌*◌,
-  ◌%◌,
-  ◌^◌,
-  ◌<◌,
-  true,
-  Option,
-  Some,
-  None,
-  IsTrue,
-  List,
-  [],
-  ◌∷◌,
-  zero,
-  suc,
-  get_or,
-  arith,
-  refl,
-  sym,
-  ap,
-  ◌∙◌,
-  subst,
-  ⊎_elim,
-}
+use Rattle.op_core.specs.CountWords.{count_word}
+use Rattle.op_core.proofs.CountWords.{less_word}
+use Rattle.path_rule.proofs.places.ShownSteps.{group_shown}
+use Rattle.std.proofs.Common.{◌≡◌, ℕ, ◌+◌, ◌-◌, ◌*◌, ◌%◌, ◌^◌, ◌<◌, true, Option, Some, None}
+use Rattle.std.proofs.Common.{IsTrue, List, [], ◌∷◌, zero, suc, get_or, arith, refl, sym, ap, ◌∙◌}
+use Rattle.std.proofs.Common.{subst, ⊎_elim}
 use Rattle.std.specs.List.{Contains}
 use Rattle.std.specs.Option.{option_map_or}
 use Rattle.std.specs.Prelude.{slice_index}
@@ -65,7 +43,6 @@ use Rattle.path_rule.specs.Accepted.{places_of, IsPlaced}
 use Rattle.path_rule.specs.Applying.{AreApplied}
 use Rattle.path_rule.specs.Boxes.{memtable_box}
 use Rattle.path_rule.specs.Lasts.{shown}
-use Rattle.path_rule.specs.Layout.{tally_word}
 use Rattle.path_rule.specs.Memtables.{IsPlacedIn, IsRunning, LiesAmong}
 use Rattle.path_rule.specs.Rule.{Ruled, view_after}
 use Rattle.path_rule.specs.Told.{Made, Finished}
@@ -74,7 +51,7 @@ use Rattle.path_rule.proofs.boxes.MemtablesStay.{closed_puts, runs_there}
 use Rattle.path_rule.proofs.moves.AppendSteps.{low_seat}
 use Rattle.path_rule.proofs.moves.Looks.{as_part, within, acts_with, each_name}
 use Rattle.path_rule.proofs.moves.Moving.{core_lawful, kept_before, puts_now, LiesPlaced}
-use Rattle.path_rule.proofs.moves.StepFacts.{less_word, same_seat}
+use Rattle.path_rule.proofs.moves.StepFacts.{same_seat}
 use Rattle.path_rule.proofs.places.ReadBack.{rows_stay}
 use Rattle.path_rule.proofs.seats.Placing.{its_places}
 
@@ -112,17 +89,19 @@ place_among first entry (s ∷ ss) (suc t) k e = by s.place
 module _ {K : Type 0} (shows : K → Lasting) (o : Beside) (size : PathSize) (slots id : ℕ)
     (m : Me (Slot K) View) (w : ℕ) (mine : m.0.role ≡ Steps w) where
   pub finishes : (g : ℕ) → m.0.part.write ≡ Some g → m.0.part.append ≡ None → IsPlaced m.0.part
-      → AreApplied m.0.part m.0.hands → m.0.hands.memtable_box ≡ None → g < 65536
-      → Allows (Ruled shows o size) slots id m (72 + 2 * g) (λ n. (n + (2 ^ 64 - 1)) % 2 ^ 64)
-      (Finished (step slots (72 + 2 * g) 1 0 none) m)
-  finishes g write append placed applied rests fits s r _ there low =
-      let n = slice_index s.words (72 + 2 * g) in
+      → AreApplied m.0.part m.0.hands → m.0.hands.memtable_box ≡ None
+      → Allows (Ruled shows o size) slots id m (72 + 2 * (g % 32))
+      (λ n. (n + (2 ^ 64 - 1)) % 2 ^ 64)
+      (Finished (step slots (72 + 2 * (g % 32)) 1 0 none) m)
+  finishes g write append placed applied rests s r _ there low =
+      let i : ℕ = 72 + 2 * (g % 32) in let n = slice_index s.words i in
       let x = r.core in let c = tally_of x Write g in
-      let found : n ≡ tally_word c = r.words (Count Write g) fits in
       let places = places_of m.0.part in
       let e = Close w Write g (Applied places) in
       let is = as_part shows o size slots id m w mine s r there in
       let here = ap (λ (p : SeatOf). p.write) (sym is) ∙ write in
+      let fits = group_shown x (core_lawful shows o size s r) Write w g here in
+      let found : n ≡ count_word g c = r.words (Count Write g) fits in
       let made = group_made x (core_lawful shows o size s r) Write w g here in
       let v' = view_after m.0 e n in
       let may : IsStep x e = record {
@@ -137,10 +116,10 @@ module _ {K : Type 0} (shows : K → Lasting) (o : Beside) (size : PathSize) (sl
         );
       } in
       acts_with shows o size slots id m w mine s r there e refl may tt tt fits
-      (rows_stay x e may (λ q. q) r.rows)
+      tt (rows_stay x e may (λ q. q) r.rows)
       ((n + (2 ^ 64 - 1)) % 2 ^ 64) n
       (ap (λ z. (z + (2 ^ 64 - 1)) % 2 ^ 64) found
-      ∙ less_word c (some_left x (core_lawful shows o size s r) Write w g here)
+      ∙ less_word g c (some_left x (core_lawful shows o size s r) Write w g here)
       (subst (λ z. z < 2 ^ 64) found low)) refl tt
       (λ C. boxed_stay shows size.seats x.notes
       (shown o size.at_open r.kept_to r.filed r.dropped x) x.claims x.claims x.append x.append
@@ -153,10 +132,10 @@ module _ {K : Type 0} (shows : K → Lasting) (o : Beside) (size : PathSize) (sl
       (λ C z t k q few h R. dite (ℕ_discrete R.id id)
       (λ same. inl (placed_now s r there (places_of m.0.part) g z t k q few h R same))
       (λ apart. inr (runs_there s.views id m.0 v' there z q.end.0 R apart))) tt
-      (Finished (step slots (72 + 2 * g) 1 0 none) m n)
-      (λ u z h role _ word. each_name shows o size slots id m w mine 72 g
+      (Finished (step slots i 1 0 none) m n)
+      (λ u z h role mine'. each_name shows o size slots id m w mine g
       (λ z h. Made z (Close z Write h (Applied places)) n m (v', m.1))
-      ((refl, u), refl) z h role word)
+      ((refl, u), refl) z h role (same_Some g h (sym write ∙ mine')))
     where
       from_zero : (n : ℕ) → 0 + n ≡ n
       from_zero n = omega arith

@@ -1,52 +1,15 @@
 -- The holder of the Sync turn takes the box of another seat, and gives it back empty.
-use Rattle.std.proofs.Common.{
-  ◌≡◌,
-  ◌≢◌,
-  ℕ,
-  suc,
-  ◌+◌,
-  ◌*◌,
-  ◌%◌,
-  ◌^◌,
-  ◌<◌,
-  ◌≤◌,
-  List,
-  [],
-  ◌∷◌,
-  length,
-  set,
-  Option,
-  Some,
-  None,
-  is_some,
-  IsTrue,
-  refl,
-  sym,
-  ap,
-  ◌∙◌,
-  subst,
-  ⊎_elim,
-  arith,
-}
+use Rattle.std.proofs.Common.{◌≡◌, ◌≢◌, ℕ, suc, ◌+◌, ◌*◌, ◌%◌, ◌^◌, ◌<◌, ◌≤◌, List, [], ◌∷◌, length}
+use Rattle.std.proofs.Common.{set, Option, Some, None, is_some, IsTrue, refl, sym, ap, ◌∙◌, subst}
+use Rattle.std.proofs.Common.{⊎_elim, arith}
 use Rattle.std.specs.Prelude.{slice_index}
 use Rattle.std.proofs.lemmas.Bool.{false≢true}
 use mathlib.Core.Logic.{dite}
 use mathlib.Core.Option.{none, some, some-injective}
 use native.Mathlib.Decide.{ℕ_discrete}
 use lib.ListN.{get_elem?}
-use Rattle.atomic_table.specs.Table.{
-  State,
-  Me,
-  step,
-  Act,
-  takes,
-  gives,
-  put_back,
-  rest,
-  homes_after,
-  stepped,
-  Allows,
-}
+use Rattle.atomic_table.specs.Table.{State, Me, step, Act, takes, gives, put_back, rest}
+use Rattle.atomic_table.specs.Table.{homes_after, stepped, Allows}
 use Rattle.op_core.specs.declared.count.Order.TheVariants.{Append}
 use Rattle.path_core.specs.declared.event.Event.TheVariants.{Look}
 use Rattle.path_core.specs.declared.event.Place.TheVariants.{Oldest}
@@ -78,14 +41,8 @@ use Rattle.path_rule.specs.Turns.{TurnSaw}
 use Rattle.path_rule.proofs.boxes.FewNotes.{few_kept}
 use Rattle.path_rule.proofs.boxes.HandsStay.{issue_known}
 use Rattle.path_rule.proofs.boxes.HolderBoxes.{boxed_gather, boxed_give_back}
-use Rattle.path_rule.proofs.moves.HolderFacts.{
-  is_held,
-  outside,
-  others_free,
-  others_near,
-  current_is,
-  hands_now,
-}
+use Rattle.path_rule.proofs.moves.HolderFacts.{is_held, outside, others_free, others_near}
+use Rattle.path_rule.proofs.moves.HolderFacts.{current_is, hands_now}
 use Rattle.path_rule.proofs.boxes.MemtablesStay.{SameHeld}
 use Rattle.path_rule.proofs.moves.LeavesWrites.{FirstBelow, MovesBelow}
 use Rattle.path_rule.proofs.moves.Looks.{within, look_owes, each_seat_name}
@@ -160,9 +117,10 @@ module _ {K : Type 0} (shows : K → Lasting) (o : Beside) (size : PathSize) (sl
           is_there = tt;
           row = tt;
         } in let rows = rows_stay x e may (λ q. q) r.rows in (
-          plays shows o size s r id w m.0 there mine e refl may tt tt tt rows n n None h found
+          plays shows o size s r id w m.0 there mine e refl may tt tt tt tt rows n n None h found
               (ap (λ k. seat_after m.0.part e (Number k) (told_by None h)) found) found m.1 a
-              (boxed (columns_now shows o size s r id w m.0 there mine e refl may tt tt tt rows n n
+              (boxed (columns_now shows o size s r id w m.0 there mine e refl may tt tt tt tt rows n
+              n
               None
               h found (ap (λ k. seat_after m.0.part e (Number k) (told_by None h)) found))) tt
               same below tt,

@@ -1,36 +1,12 @@
 -- What the holder of the Sync turn knows: it is outside the append order, others have boxes of
 -- their own alone, and what it found of the order while it holds the turn is exact.
-use Rattle.std.proofs.Common.{
-  ◌≡◌,
-  ◌≢◌,
-  ℕ,
-  ◌+◌,
-  ◌%◌,
-  ◌^◌,
-  ◌≤◌,
-  Bool,
-  false,
-  true,
-  Option,
-  Some,
-  None,
-  is_some,
-  IsTrue,
-  refl,
-  sym,
-  ap,
-  ◌∙◌,
-  subst,
-  arith,
-}
+use Rattle.std.proofs.Common.{◌≡◌, ◌≢◌, ℕ, ◌≤◌, Bool, false, true, Option, Some, None, is_some}
+use Rattle.std.proofs.Common.{IsTrue, refl, sym, ap, ◌∙◌, subst}
 use Rattle.std.specs.Option.{option_map_or}
 use mathlib.Core.Option.{some}
 use lib.ListN.{get_elem?}
 use Rattle.atomic_table.specs.Table.{State, Me}
-use Rattle.op_core.specs.Tallies.{running_of, IsOpen, expired}
 use Rattle.op_core.specs.declared.count.Order.TheVariants.{Append}
-use Rattle.op_core.specs.declared.count.Tally.{Tally}
-use Rattle.op_core.specs.declared.count.Tally.TheVariants.{Open, Expired}
 use Rattle.path_core.specs.declared.event.Turn.TheVariants.{Sync}
 use Rattle.path_core.specs.declared.seat.Issue.{Issue}
 use Rattle.path_core.specs.declared.seat.Issue.TheVariants.{Rest}
@@ -47,17 +23,11 @@ use Rattle.path_rule.specs.declared.view.Role.TheVariants.{Steps}
 use Rattle.path_rule.specs.declared.view.View.{View}
 use Rattle.path_rule.specs.Boxed.{HandsAs, HandsAre}
 use Rattle.path_rule.specs.Lasts.{shown}
-use Rattle.path_rule.specs.Layout.{tally_word}
 use Rattle.path_rule.specs.Rule.{Knows, Ruled}
 use Rattle.path_rule.specs.Turns.{TurnSaw}
 use Rattle.path_rule.proofs.moves.Looks.{as_part, own_part}
 use Rattle.path_rule.proofs.moves.Moving.{core_lawful, known}
 use Rattle.path_rule.proofs.moves.StepFacts.{group_low}
-
-pub expired_word : (c : Tally) → IsOpen c → running_of c ≤ 64
-    → (tally_word c + 2 ^ 63) % 2 ^ 64 ≡ tally_word (expired c)
-expired_word (Open r) o b = omega arith
-expired_word (Expired r) o b = absurd o
 
 -- the turn of a holder that is at an issue
 pub at_issue : (p : Seat) (i : Issue) → i ≢ Rest → issue_of p ≡ i

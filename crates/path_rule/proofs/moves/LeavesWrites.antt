@@ -1,26 +1,7 @@
 -- Which steps leave what the boxes of memtables are told by: a seat's claim and its note, what is
 -- placed, and the boxes themselves.
-use Rattle.std.proofs.Common.{
-  ◌≡◌,
-  ◌≢◌,
-  ℕ,
-  suc,
-  ◌<◌,
-  ◌≤◌,
-  true,
-  List,
-  [],
-  ◌∷◌,
-  Option,
-  refl,
-  sym,
-  ap,
-  ◌∙◌,
-  subst,
-  arith,
-  get_or-set_same,
-  get_or-set_other,
-}
+use Rattle.std.proofs.Common.{◌≡◌, ◌≢◌, ℕ, suc, ◌<◌, ◌≤◌, true, List, [], ◌∷◌, Option, refl, sym}
+use Rattle.std.proofs.Common.{ap, ◌∙◌, subst, arith, get_or-set_same, get_or-set_other}
 use Rattle.std.specs.Prelude.{◌&&◌, ◌==◌, ◌⊎◌, not}
 use Rattle.std.specs.List.{list_any}
 use Rattle.std.proofs.lemmas.Bool.{and_from, eq-eqb, false≢true}
@@ -38,23 +19,11 @@ use Rattle.path_core.specs.declared.event.Carried.TheVariants.{Nothing, Deposit,
 use Rattle.path_core.specs.declared.event.ClaimKind.TheVariants.{Entry, Marker}
 use Rattle.path_core.specs.declared.event.Cursor.TheVariants.{Synced, OldestLive, Stopped}
 use Rattle.path_core.specs.declared.event.Event.{Event}
-use Rattle.path_core.specs.declared.event.Event.TheVariants.{
-  Look,
-  Register,
-  Close,
-  OpenGroup,
-  MoveCurrent,
-  Expire,
-  Advance,
-  Claim,
-  Switch,
-  Raise,
-  Finalise,
-  TakeTurn,
-  GiveTurn,
-  Put,
-}
-use Rattle.path_core.specs.declared.event.SwitchPart.TheVariants.{Mark, Open}
+use Rattle.path_core.specs.declared.event.Event.TheVariants.{Look, Register, Close, OpenGroup}
+use Rattle.path_core.specs.declared.event.Event.TheVariants.{MoveCurrent, Expire, Advance, Claim}
+use Rattle.path_core.specs.declared.event.Event.TheVariants.{Switch, Raise, Finalise, TakeTurn}
+use Rattle.path_core.specs.declared.event.Event.TheVariants.{GiveTurn, Put}
+use Rattle.path_core.specs.declared.event.SwitchPart.TheVariants.{Clear, Mark, Open}
 use Rattle.path_core.specs.declared.event.Turn.TheVariants.{Flush}
 use Rattle.path_core.specs.declared.seat.Range.{Range}
 use Rattle.path_core.specs.declared.state.PathState.{PathState}
@@ -144,6 +113,7 @@ live_still x e a t leaves = by e a leaves
     by (Expire w o g) a leaves = refl
     by (Advance w o g) a leaves = refl
     by (Claim w from to what) a leaves = refl
+    by (Switch w u m Clear) a leaves = refl
     by (Switch w u m Open) a leaves = live_left x (Switch w u m Open) a at (λ q. absurd cc)
     by (Switch w u m Mark) a leaves = live_left x (Switch w u m Mark) a at (λ q. absurd cc)
     by (Raise w u m to) a leaves = live_left x (Raise w u m to) a at (λ q. absurd cc)

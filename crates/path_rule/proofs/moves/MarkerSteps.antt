@@ -1,21 +1,6 @@
 -- The holder of the Sync turn claims a marker.
-use Rattle.std.proofs.Common.{
-  ◌≡◌,
-  ◌≢◌,
-  ℕ,
-  eqb,
-  Some,
-  None,
-  is_some,
-  IsTrue,
-  refl,
-  sym,
-  ap,
-  ◌∙◌,
-  subst,
-  ◌<◌,
-  Option,
-}
+use Rattle.std.proofs.Common.{◌≡◌, ◌≢◌, ℕ, eqb, Some, None, is_some, IsTrue, refl, sym, ap, ◌∙◌}
+use Rattle.std.proofs.Common.{subst, ◌<◌, Option}
 use Rattle.std.specs.Prelude.{slice_index}
 use Rattle.std.specs.Option.{option_map}
 use mathlib.Core.Option.{none}
@@ -102,7 +87,7 @@ module _ {K : Type 0} (shows : K → Lasting) (o : Beside) (size : PathSize) (sl
         keeps,
         tt,
         plays shows o size s r id w m.0 there mine e refl may tt running tt
-            (rows_stay x e may (λ q. q) r.rows) to to None h refl refl tt m.1 keeps
+            tt (rows_stay x e may (λ q. q) r.rows) to to None h refl refl tt m.1 keeps
             (boxed_goes shows size.seats x.notes (shown o size.at_open r.kept_to r.filed r.dropped
             x) x.claims
             (next_of x e).claims x.append x.append s.homes s.views B id w m.0 v' there mine refl

@@ -1,30 +1,6 @@
 -- A writer takes its box of a memtable, and gives it back with its entry in it.
-use Rattle.std.proofs.Common.{
-  ◌≡◌,
-  ◌≢◌,
-  ℕ,
-  suc,
-  ◌+◌,
-  ◌*◌,
-  ◌^◌,
-  ◌<◌,
-  ◌≤◌,
-  ⊎_elim,
-  List,
-  [],
-  ◌∷◌,
-  length,
-  set,
-  Some,
-  None,
-  IsTrue,
-  refl,
-  sym,
-  ap,
-  ◌∙◌,
-  subst,
-  arith,
-}
+use Rattle.std.proofs.Common.{◌≡◌, ◌≢◌, ℕ, suc, ◌+◌, ◌*◌, ◌^◌, ◌<◌, ◌≤◌, ⊎_elim, List, [], ◌∷◌}
+use Rattle.std.proofs.Common.{length, set, Some, None, IsTrue, refl, sym, ap, ◌∙◌, subst, arith}
 use Rattle.std.specs.Prelude.{slice_index, ◌++◌}
 use Rattle.std.proofs.lemmas.Option.{none-some, same_Some}
 use mathlib.Core.Logic.{dite}
@@ -32,19 +8,8 @@ use mathlib.Core.Option.{none, some, some-injective}
 use native.Mathlib.Decide.{ℕ_discrete}
 use lib.ListN.{get_elem?}
 use Rattle.atomic_table.proofs.Lists.{set_else}
-use Rattle.atomic_table.specs.Table.{
-  State,
-  Me,
-  step,
-  Act,
-  takes,
-  gives,
-  put_back,
-  rest,
-  homes_after,
-  stepped,
-  Allows,
-}
+use Rattle.atomic_table.specs.Table.{State, Me, step, Act, takes, gives, put_back, rest}
+use Rattle.atomic_table.specs.Table.{homes_after, stepped, Allows}
 use Rattle.clog_base.specs.declared.cell.Table.{Table}
 use Rattle.path_core.specs.declared.event.Event.TheVariants.{Look}
 use Rattle.path_core.specs.declared.event.Place.TheVariants.{Newest}
@@ -71,15 +36,7 @@ use Rattle.path_rule.specs.HandsAfter.{with_applied, with_held}
 use Rattle.path_rule.specs.Lasts.{shown}
 use Rattle.path_rule.specs.Memtables.{HasMemtables, IsHome, IsOfBox, PutsAs, ReadsBox}
 use Rattle.path_rule.specs.Reads.{ReadsAs}
-use Rattle.path_rule.specs.Rule.{
-  start_of,
-  told_by,
-  view_after,
-  with_hands,
-  Knows,
-  Ruled,
-  Was,
-}
+use Rattle.path_rule.specs.Rule.{start_of, told_by, view_after, with_hands, Knows, Ruled, Was}
 use Rattle.path_rule.specs.Told.{MadeAs}
 use Rattle.path_rule.proofs.boxes.FewNotes.{few}
 use Rattle.path_rule.proofs.boxes.MemtablePut.{memtable_given}
@@ -90,15 +47,8 @@ use Rattle.path_rule.proofs.log.Deposits.{deposited_noted}
 use Rattle.path_rule.proofs.log.OwnWrites.{below_log}
 use Rattle.path_rule.proofs.moves.AppendSteps.{low_seat}
 use Rattle.path_rule.proofs.moves.Looks.{few_tables, within}
-use Rattle.path_rule.proofs.moves.Moving.{
-  columns_now,
-  core_lawful,
-  known,
-  place_still,
-  plays_with,
-  reads_still,
-  was,
-}
+use Rattle.path_rule.proofs.moves.Moving.{columns_now, core_lawful, known, place_still, plays_with}
+use Rattle.path_rule.proofs.moves.Moving.{reads_still, was}
 use Rattle.path_rule.proofs.moves.StepFacts.{last_same, notes_first}
 use Rattle.path_rule.proofs.moves.TableTurns.{each_table_name}
 use Rattle.path_rule.proofs.places.ReadBack.{log_small, rows_stay}
@@ -187,11 +137,13 @@ module _ {K : Type 0} (shows : K → Lasting) (o : Beside) (size : PathSize) (sl
           row = tt;
         } in let rows = rows_stay x e may (λ q. q) r.rows in
         let told = ap (λ k. seat_after m.0.part e (Number k) (told_by None h)) found in
-        let C = columns_now shows o size s r id w m.0 there mine e refl may tt tt few rows n n None
+        let C = columns_now shows o size s r id w m.0 there mine e refl may tt tt few tt rows n n
+        None
         h found told in (
-          plays_with shows o size s r id w m.0 there mine e refl may tt tt few rows n n None h
+          plays_with shows o size s r id w m.0 there mine e refl may tt tt few tt rows n n None h
               found told found refl m.1 a (boxed C) (memtables C)
-              (reads_still shows o size s r id w m.0 there mine e refl may tt tt few rows n n None
+              (reads_still shows o size s r id w m.0 there mine e refl may tt tt few tt rows n n
+              None
               h found told tt reading),
           was shows o size s r id w m.0 there mine e may tt,
         )

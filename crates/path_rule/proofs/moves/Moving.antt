@@ -1,33 +1,7 @@
 -- A step that the machine allows keeps the rule.
-use Rattle.std.proofs.Common.{
-  ◌≡◌,
-  ◌≢◌,
-  ℕ,
-  ◌<◌,
-  true,
-  cond,
-  Option,
-  List,
-  [],
-  ◌∷◌,
-  map,
-  length,
-  set,
-  Some,
-  is_some,
-  refl,
-  sym,
-  ap,
-  ◌∙◌,
-  subst,
-  ⊎_elim,
-  arith,
-  eq-eqb,
-  ne_eqb,
-  length-set,
-  get_or-set_same,
-  get_or-set_other,
-}
+use Rattle.std.proofs.Common.{◌≡◌, ◌≢◌, ℕ, ◌<◌, true, Option, List, [], ◌∷◌, map, length, set, Some}
+use Rattle.std.proofs.Common.{is_some, refl, sym, ap, ◌∙◌, subst, ⊎_elim, arith, length-set}
+use Rattle.std.proofs.Common.{get_or-set_same, get_or-set_other}
 use Rattle.std.specs.Prelude.{slice_index, ◌≤◌, ◌⊎◌}
 use Rattle.std.specs.List.{Contains}
 use mathlib.Core.Logic.{dite, inl, inr}
@@ -36,17 +10,8 @@ use mathlib.Core.Option as maybe
 use native.Mathlib.Decide.{ℕ_discrete}
 use lib.ListN.{get_elem?}
 use Rattle.atomic_table.proofs.Lists.{at_set}
-use Rattle.atomic_table.specs.Table.{
-  State,
-  Act,
-  keeps,
-  takes,
-  gives,
-  chain,
-  carried_after,
-  homes_after,
-  stepped,
-}
+use Rattle.atomic_table.specs.Table.{State, Act, keeps, takes, gives, chain, carried_after}
+use Rattle.atomic_table.specs.Table.{homes_after, stepped}
 use Rattle.path_core.specs.declared.event.Event.{Event}
 use Rattle.path_core.specs.declared.event.Cursor.TheVariants.{OldestLive, Stopped, Synced}
 use Rattle.path_core.specs.declared.event.Event.TheVariants.{GiveTurn, Put}
@@ -89,74 +54,32 @@ use Rattle.path_rule.specs.Boxes.{boxes, memtable_box}
 use Rattle.path_rule.specs.Filing.{HasFiled}
 use Rattle.path_rule.specs.Kept.{MayBeKept}
 use Rattle.path_rule.specs.Lasts.{shown}
-use Rattle.path_rule.specs.Layout.{word_at, IsWord, word_of, reading_at}
-use Rattle.path_rule.specs.Memtables.{
-  HasMemtables,
-  IsKeptAt,
-  IsPlacedIn,
-  IsPut,
-  IsRunning,
-  PutsAre,
-  PutsAs,
-}
+use Rattle.path_rule.specs.Layout.{word_at, ActsShown, word_for, reading_at}
+use Rattle.path_rule.specs.Memtables.{HasMemtables, IsKeptAt, IsPlacedIn, IsPut, IsRunning, PutsAre}
+use Rattle.path_rule.specs.Memtables.{PutsAs}
+use Rattle.path_rule.specs.Issued.{MayIssue}
 use Rattle.path_rule.specs.Reads.{ReadsAre, ReadsAs}
-use Rattle.path_rule.specs.Rule.{
-  start_of,
-  IsFit,
-  IsBuilt,
-  event_of,
-  steps_by,
-  IsSeat,
-  Knows,
-  SizedAs,
-  IsSized,
-  HasRows,
-  Ruled,
-  told_by,
-  view_with,
-  with_hands,
-  Was,
-}
-use Rattle.path_rule.proofs.boxes.MemtablesStay.{
-  memtables_stay,
-  puts_stay,
-  runs_still,
-  PlacesStay,
-  SameHeld,
-}
+use Rattle.path_rule.specs.Rule.{start_of, IsFit, IsBuilt, event_of, steps_by, IsSeat, Knows}
+use Rattle.path_rule.specs.Rule.{SizedAs, IsSized, HasRows, Ruled, told_by, view_with, with_hands}
+use Rattle.path_rule.specs.Rule.{Was}
+use Rattle.path_rule.proofs.boxes.MemtablesStay.{memtables_stay, puts_stay, runs_still, PlacesStay}
+use Rattle.path_rule.proofs.boxes.MemtablesStay.{SameHeld}
 use Rattle.path_rule.proofs.boxes.ReadsStay.{reads_on}
 use Rattle.path_rule.proofs.boxes.TurnHeld.{held_stays, LeavesTurn}
 use Rattle.path_rule.proofs.log.BuiltSteps.{still_risen}
+use Rattle.path_rule.proofs.log.Issues.{few_still, paid_still, steps_other, steps_own}
 use Rattle.path_rule.proofs.log.FilingStays.{filing_stays}
 use Rattle.path_rule.specs.Trails.{TrailTells, ViewTells}
 use Rattle.path_rule.proofs.log.KeptStays.{kept_stays}
 use Rattle.path_rule.proofs.log.TrailMemtables.{ToldTrue}
 use Rattle.path_rule.proofs.log.TrailsTell.{tells_more, view_still}
-use Rattle.path_rule.proofs.moves.LeavesWrites.{
-  LeavesLive,
-  LeavesReading,
-  LeavesWrite,
-  MovesBelow,
-  claim_left,
-  files_left,
-  leaves_places,
-  live_moves,
-  live_still,
-  note_left,
-  placed_left,
-  placed_stays,
-  same_above,
-}
+use Rattle.path_rule.proofs.moves.LeavesWrites.{LeavesLive, LeavesReading, LeavesWrite, MovesBelow}
+use Rattle.path_rule.proofs.moves.LeavesWrites.{claim_left, files_left, leaves_places, live_moves}
+use Rattle.path_rule.proofs.moves.LeavesWrites.{live_still, note_left, placed_left, placed_stays}
+use Rattle.path_rule.proofs.moves.LeavesWrites.{same_above}
 use Rattle.path_rule.proofs.seats.PlaceStays.{LeavesPlaces, place_stays}
-use Rattle.path_rule.proofs.places.SamePlace.{same_place, in_rows}
-
-pub steps_own : (w : ℕ) (es : List Event) (e : Event) → by_of e ≡ w
-    → steps_by w (e ∷ es) ≡ e ∷ steps_by w es
-steps_own w es e is = ap (λ b. cond b (e ∷ steps_by w es) (steps_by w es)) (eq-eqb (by_of e) w is)
-
-pub steps_other : (w : ℕ) (es : List Event) (e : Event) → by_of e ≢ w
-    → steps_by w (e ∷ es) ≡ steps_by w es
-steps_other w es e n = ap (λ b. cond b (e ∷ steps_by w es) (steps_by w es)) (ne_eqb (by_of e) w n)
+use Rattle.path_rule.proofs.places.SamePlace.{same_place, in_rows, shown_word}
+use Rattle.path_rule.proofs.places.ShownSteps.{shown_own, shown_was}
 
 homes_length : {S : Type 0} (hs : List (maybe.Option S)) (cs : List (ℕ × S)) (a : Act S)
     → length (homes_after hs cs a) ≡ length hs
@@ -272,10 +195,10 @@ module _ {K : Type 0} (shows : K → Lasting) (o : Beside) (size : PathSize) (s 
     }
 
     module _ (e : Event) (by : by_of e ≡ w) (may : IsStep r.core e) (whole : CarriesWhole e)
-        (built : IsBuilt size.at_open r.core e) (spot : IsWord (place_of e))
-        (rows : HasRows (next_of r.core e)) (n found : ℕ)
+        (built : IsBuilt size.at_open r.core e) (spot : ActsShown r.core e)
+        (spends : MayIssue v.trail e) (rows : HasRows (next_of r.core e)) (n found : ℕ)
         (filed : Option ℕ) (h : Hands)
-        (now : n ≡ word_of (left_by e (reading r.core (place_of e))))
+        (now : n ≡ word_for (place_of e) (left_by e (reading r.core (place_of e))))
         (told : seat_after v.part e (reading_at (place_of e) found) (told_by filed h)
         ≡ seat_after v.part e (reading r.core (place_of e)) (told_of r.core e)) where
       abbrev x' : PathState
@@ -462,17 +385,21 @@ module _ {K : Type 0} (shows : K → Lasting) (o : Beside) (size : PathSize) (s 
         fit = r.fit;
         wide = length-set s.words (word_at (place_of e)) n ∙ r.wide;
         rows = rows;
+        few = few_still w r.events e by v.trail known.1.3 spends r.few;
+        paid = paid_still w r.events e by v.trail known.1.3 spends r.paid;
         long = as_many_seats r.core e ∙ r.long;
         enough = r.enough;
-        words = λ p word. dite (ℕ_discrete (word_at p) (word_at (place_of e)))
-            (λ is. let same = same_place p (place_of e) word spot is in let wide = r.wide in
-            let low = in_rows (place_of e) spot in
+        words = λ p seen. dite (ℕ_discrete (word_at p) (word_at (place_of e)))
+            (λ is. let own = shown_own r.core core_lawful e may spot in
+            let same = same_place x' next_lawful p (place_of e) seen own is in let wide = r.wide in
+            let low = in_rows (place_of e) (shown_word x' (place_of e) own) in
             subst (λ q. slice_index (set s.words (word_at (place_of e)) n) (word_at q)
-            ≡ word_of (reading x' q)) (sym same)
+            ≡ word_for q (reading x' q)) (sym same)
             (get_or-set_same s.words (word_at (place_of e)) n 0 (omega arith)
-            ∙ (now ∙ ap word_of (sym (left_here r.core core_lawful e may)))))
+            ∙ (now ∙ ap (word_for (place_of e)) (sym (left_here r.core core_lawful e may)))))
             (λ apart. get_or-set_other s.words (word_at (place_of e)) (word_at p) n 0 apart
-            ∙ (r.words p word ∙ ap word_of
+            ∙ (r.words p (shown_was r.core core_lawful e may p seen (λ q. apart (ap word_at q)))
+            ∙ ap (word_for p)
             (sym (same_elsewhere r.core core_lawful e may p (λ q. apart (ap word_at q))))));
         fresh = λ z l. let f = r.fresh z l in let below : w < r.made = known.1.0 in (
           steps_other z r.events e (λ q. absurd (omega arith)) ∙ f.0,

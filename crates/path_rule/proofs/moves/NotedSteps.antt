@@ -1,34 +1,12 @@
 -- The holder of the Sync turn learns what the keeper shows after it refused a table file, or
 -- dropped segments: at a look, or where it stops the log because the keeper has stopped.
-use Rattle.std.proofs.Common.{
-  ◌≡◌,
-  ℕ,
-  Bool,
-  true,
-  List,
-  ◌++◌,
-  set,
-  Option,
-  Some,
-  None,
-  is_some,
-  IsTrue,
-  refl,
-  sym,
-  ap,
-  ◌∙◌,
-  subst,
-  ⊎_elim,
-  arith,
-}
+use Rattle.std.proofs.Common.{◌≡◌, ℕ, Bool, true, List, ◌++◌, set, Option, Some, None, is_some}
+use Rattle.std.proofs.Common.{IsTrue, refl, sym, ap, ◌∙◌, subst, ⊎_elim, arith}
 use Rattle.std.specs.Prelude.{slice_index}
 use Rattle.std.specs.List.{Contains}
 use Rattle.std.proofs.lemmas.Bool.{false≢true}
-use Rattle.std.proofs.lemmas.List.Elements.{
-  Contains-append_cases,
-  Contains-append_left,
-  Contains-append_right,
-}
+use Rattle.std.proofs.lemmas.List.Elements.{Contains-append_cases, Contains-append_left}
+use Rattle.std.proofs.lemmas.List.Elements.{Contains-append_right}
 use mathlib.Core.Logic.{inr}
 use mathlib.Core.Option.{none, some}
 use lib.ListN.{get_elem?}
@@ -53,15 +31,8 @@ use Rattle.path_rule.specs.declared.view.Role.TheVariants.{Steps}
 use Rattle.path_rule.specs.declared.view.View.{View}
 use Rattle.path_rule.specs.Boxed.{Boxed, IsKept, IsSomewhere}
 use Rattle.path_rule.specs.Filing.{HasFiled, IsGoing, MayGo}
-use Rattle.path_rule.specs.FilingTold.{
-  AreArchived,
-  FilingNoted,
-  FilingStopped,
-  GoesNow,
-  MadeNoted,
-  MayBeGone,
-  noted,
-}
+use Rattle.path_rule.specs.FilingTold.{AreArchived, FilingNoted, FilingStopped, GoesNow, MadeNoted}
+use Rattle.path_rule.specs.FilingTold.{MayBeGone, noted}
 use Rattle.path_rule.specs.HandsAfter.{with_desk}
 use Rattle.path_rule.specs.Lasts.{ends, shown}
 use Rattle.path_rule.specs.Rule.{Ruled, told_by, view_after, with_hands}
@@ -196,7 +167,7 @@ module _ {K : Type 0} (shows : K → Lasting) (o : Beside) (size : PathSize) (sl
         keeps,
         tt,
         plays_filed shows o size s r id w m.0 there mine e refl may tt tt tt
-            (rows_stay x e may (λ q. q) r.rows) n n None h found
+            tt (rows_stay x e may (λ q. q) r.rows) n n None h found
             (ap (λ q. seat_after m.0.part e (Number q) (told_by None h)) found) found r.kept_to
             (kept_stays x L e may r.kept_to r.may_be_kept) (put s r there) dropped
             (filing_stays x L size (put s r there) dropped e may refl (filed_now s r there)) m.1
@@ -254,7 +225,7 @@ module _ {K : Type 0} (shows : K → Lasting) (o : Beside) (size : PathSize) (sl
         keeps,
         tt,
         plays_filed shows o size s r id w m.0 there mine e refl may tt built tt
-            (rows_stay x e may (λ q. q) r.rows) value value None h refl refl tt r.kept_to
+            tt (rows_stay x e may (λ q. q) r.rows) value value None h refl refl tt r.kept_to
             (kept_stays x L e may r.kept_to r.may_be_kept) (put s r there) dropped
             (filing_stays x L size (put s r there) dropped e may refl (filed_now s r there)) m.1
             keeps

@@ -1,55 +1,19 @@
 -- The holder of a Flush turn reads the boxes of a memtable behind its barrier.
-use Rattle.std.proofs.Common.{
-  ◌≡◌,
-  ◌≢◌,
-  ℕ,
-  suc,
-  ◌+◌,
-  ◌*◌,
-  ◌<◌,
-  ⊎_elim,
-  List,
-  ◌∷◌,
-  Option,
-  set,
-  Some,
-  None,
-  is_some,
-  refl,
-  sym,
-  ap,
-  ◌∙◌,
-  subst,
-  arith,
-}
+use Rattle.std.proofs.Common.{◌%◌, ◌≡◌, ◌≢◌, ℕ, suc, ◌+◌, ◌*◌, ◌<◌, ⊎_elim, List, ◌∷◌, Option, set}
+use Rattle.std.proofs.Common.{Some, None, is_some, refl, sym, ap, ◌∙◌, subst, arith}
 use Rattle.std.specs.Prelude.{slice_index}
 use Rattle.std.specs.List.{filter, Contains}
 use Rattle.std.proofs.lemmas.Bool.{lt-ltb, ltb-true}
-use Rattle.std.proofs.lemmas.List.Elements.{
-  Contains-append_cases,
-  Contains-append_left,
-  Contains-append_right,
-}
+use Rattle.std.proofs.lemmas.List.Elements.{Contains-append_cases, Contains-append_left}
+use Rattle.std.proofs.lemmas.List.Elements.{Contains-append_right}
 use Rattle.std.proofs.lemmas.Option.{none-some, same_Some}
 use mathlib.Core.Logic.{dite}
 use mathlib.Core.Option.{none, some, some-injective}
 use native.Mathlib.Decide.{dec_lt, ℕ_discrete}
 use lib.ListN.{get_elem?}
 use Rattle.atomic_table.proofs.Lists.{set_else}
-use Rattle.atomic_table.specs.Table.{
-  State,
-  Me,
-  step,
-  Act,
-  keeps,
-  takes,
-  gives,
-  put_back,
-  rest,
-  homes_after,
-  stepped,
-  Allows,
-}
+use Rattle.atomic_table.specs.Table.{State, Me, step, Act, keeps, takes, gives, put_back, rest}
+use Rattle.atomic_table.specs.Table.{homes_after, stepped, Allows}
 use Rattle.clog_base.specs.declared.cell.Table.{Table}
 use Rattle.path_core.specs.declared.event.Event.TheVariants.{Look}
 use Rattle.path_core.specs.declared.event.Place.{Place}
@@ -62,13 +26,7 @@ use Rattle.path_core.specs.declared.state.Bound.TheVariants.{Final}
 use Rattle.path_core.specs.declared.state.Placed.{Placed}
 use Rattle.path_core.specs.Allowed.{IsStep}
 use Rattle.path_core.specs.History.{bound_before}
-use Rattle.path_core.specs.Parts.{
-  key_of_bound,
-  memtable_of,
-  seat_of,
-  seat_table,
-  table_of,
-}
+use Rattle.path_core.specs.Parts.{key_of_bound, memtable_of, seat_of, seat_table, table_of}
 use Rattle.path_core.specs.SeatAfter.{seat_after}
 use Rattle.path_core.specs.Whole.{IsWhole}
 use Rattle.path_core.specs.Words.{reading, IsPlace}
@@ -87,20 +45,11 @@ use Rattle.path_rule.specs.declared.view.Role.{Role}
 use Rattle.path_rule.specs.declared.view.Role.TheVariants.{Opener, Steps, Spent}
 use Rattle.path_rule.specs.declared.view.View.{View}
 use Rattle.path_rule.specs.Boxes.{boxes, memtable_box, NotesAre}
-use Rattle.path_rule.specs.Flushes.{
-  next_box,
-  FirstBegun,
-  MayRead,
-  NextBegun,
-  ReadEnded,
-  ReadGiven,
-  ReadTaken,
-  TakesNone,
-  TookRead,
-}
+use Rattle.path_rule.specs.Flushes.{next_box, FirstBegun, MayRead, NextBegun, ReadEnded, ReadGiven}
+use Rattle.path_rule.specs.Flushes.{ReadTaken, TakesNone, TookRead}
 use Rattle.path_rule.specs.HandsAfter.{box_read, box_seen, first_read, with_reading}
 use Rattle.path_rule.specs.Lasts.{shown}
-use Rattle.path_rule.specs.Layout.{bound_word, reading_at, word_at, word_of, IsWord}
+use Rattle.path_rule.specs.Layout.{bound_word, reading_at, word_at, word_for, IsShown}
 use Rattle.path_rule.specs.Memtables.{HasMemtables, IsHome, IsKeptAt, PutsAs, ReadsBox}
 use Rattle.path_rule.specs.Reads.{placed_at, ReadsAre, ReadsAs}
 use Rattle.path_rule.specs.Rule.{Ruled, Was, told_by, view_after, with_hands}
@@ -118,19 +67,11 @@ use Rattle.path_rule.proofs.moves.BoundSteps.{each_bound_name}
 use Rattle.path_rule.proofs.moves.LeftMemtables.{begins_held, begins_passed}
 use Rattle.path_rule.proofs.moves.Looks.{few_tables, within}
 use Rattle.path_rule.proofs.moves.MemtableSteps.{others_are, sized}
-use Rattle.path_rule.proofs.moves.Moving.{
-  columns_now,
-  core_lawful,
-  part_is,
-  place_still,
-  plays_with,
-  puts_now,
-  reads_now,
-  reads_then,
-  was,
-}
+use Rattle.path_rule.proofs.moves.Moving.{columns_now, core_lawful, part_is, place_still}
+use Rattle.path_rule.proofs.moves.Moving.{plays_with, puts_now, reads_now, reads_then, was}
 use Rattle.path_rule.proofs.moves.SwitchSteps.{oldest_is}
 use Rattle.path_rule.proofs.moves.TableTurns.{each_table_name}
+use Rattle.path_rule.proofs.places.ShownSteps.{next_near}
 use Rattle.path_rule.proofs.places.ReadBack.{read_back, rows_stay}
 
 -- no box is in hand to be read
@@ -142,7 +83,7 @@ module _ {K : Type 0} (shows : K → Lasting) (o : Beside) (size : PathSize) (sl
   module _ (s : State (Slot K) View) (r : Ruled shows o size s)
       (there : get_elem? s.views id ≡ some m.0) where
     -- a look at a place, with what is read then
-    looked : (at : Place) → IsWord at → IsPlace r.core at → (q : Option FlushRead)
+    looked : (at : Place) → IsShown r.core at → IsPlace r.core at → (q : Option FlushRead)
         → (a : Act (Slot K)) → let e = Look w at in
         let n = slice_index s.words (word_at at) in let h = with_reading q m.0.hands in
         let v' = view_after (with_hands h m.0) e n in
@@ -156,24 +97,25 @@ module _ {K : Type 0} (shows : K → Lasting) (o : Beside) (size : PathSize) (sl
         let n = slice_index s.words (word_at at) in let h = with_reading q m.0.hands in
         let v' = view_after (with_hands h m.0) e n in
         let law = core_lawful shows o size s r in
-        let found : n ≡ word_of (reading x at) = r.words at spot in
+        let found : n ≡ word_for at (reading x at) = r.words at spot in
         let may : IsStep x e = record {
           seat = within shows o size slots id m w mine s r there;
           is_there = is_there;
           row = tt;
         } in let rows = rows_stay x e may (λ q. q) r.rows in
         let told = ap (λ k. seat_after m.0.part e k (told_by None h))
-        (ap (reading_at at) found ∙ read_back x law at) in
-        let C = columns_now shows o size s r id w m.0 there mine e refl may tt tt spot rows n n
+        (ap (reading_at at) found ∙ read_back x law r.rows at spot) in
+        let C = columns_now shows o size s r id w m.0 there mine e refl may tt tt spot tt rows n n
         None h found told in (
-          plays_with shows o size s r id w m.0 there mine e refl may tt tt spot rows n n None h
+          plays_with shows o size s r id w m.0 there mine e refl may tt tt spot tt rows n n None h
               found told found refl m.1 a
               (boxed_other shows size.seats x.notes (shown o size.at_open r.kept_to r.filed
               r.dropped x) x.claims
               x.append s.homes s.views r.boxed id m.0 v' there refl (homes_after s.homes m.1 a)
               below C.append C.issue m.0.hands.memtable_box m.0.hands.held m.0.hands.applied q refl)
               (memtables C)
-              (reads_then shows o size s r id w m.0 there mine e refl may tt tt spot rows n n None
+              (reads_then shows o size s r id w m.0 there mine e refl may tt tt spot tt rows n n
+              None
               h found told (λ z is. let R = reads z is in
               reads_on x law e may (keeps_lawful x law e may tt) size.seats m.0.part v'.part z R
               (held_stays e m.0.part v'.part C z.table tt R.held)
@@ -182,7 +124,7 @@ module _ {K : Type 0} (shows : K → Lasting) (o : Beside) (size : PathSize) (sl
         )
 
     -- the same where no box moves, and none is in hand to be read
-    looked_still : (at : Place) → IsWord at → IsPlace r.core at → (q : Option FlushRead)
+    looked_still : (at : Place) → IsShown r.core at → IsPlace r.core at → (q : Option FlushRead)
         → TakesNone m.0.hands → ((z : FlushRead) → q ≡ Some z → z.taken ≡ None)
         → ((z : FlushRead) → q ≡ Some z → ReadsAre size.seats r.core m.0.part z)
         → let e = Look w at in let n = slice_index s.words (word_at at) in
@@ -370,21 +312,22 @@ module _ {K : Type 0} (shows : K → Lasting) (o : Beside) (size : PathSize) (sl
       )
 
   pub begins_next : (t : Table) (k : ℕ) → MayBeginRead t.0 m.0 (suc k)
-      → FlushOldest t.0 m.0.part (suc k) → TakesNone m.0.hands → t.0 < 16 → k < 256
+      → FlushOldest t.0 m.0.part (suc k) → TakesNone m.0.hands → t.0 < 16
       → t.0 < m.0.size.tables
-      → Allows (Ruled shows o size) slots id m (131144 + 16 * k + t.0) (λ n. n)
-      (NextBegun (step slots (131144 + 16 * k + t.0) 0 0 none) m)
-  begins_next t k may oldest unread few small inside s r _ there _ =
-      let n = slice_index s.words (131144 + 16 * k + t.0) in let x = r.core in
+      → Allows (Ruled shows o size) slots id m (136 + 16 * (k % 4) + t.0) (λ n. n)
+      (NextBegun (step slots (136 + 16 * (k % 4) + t.0) 0 0 none) m)
+  begins_next t k may oldest unread few inside s r _ there _ =
+      let n = slice_index s.words (136 + 16 * (k % 4) + t.0) in let x = r.core in
       let e = Look w (Bound t k) in let W = (core_lawful shows o size s r).switches.tables t.0 in
       let live = oldest_is shows o size slots id m w mine s r there t.0 (suc k) oldest in
       let made = W.bounds_rise.made in let least = W.bounds_rise.oldest_is_made in
       let f = final_at (memtable_of x t.0 k).bound (W.retired_is_final k (omega arith)) in
-      let found : n ≡ bound_word (Final f.0) = r.words (Bound t k) (few, small)
+      let near = next_near x (core_lawful shows o size s r) t.0 k live in
+      let found : n ≡ bound_word (Final f.0) = r.words (Bound t k) (few, near)
       ∙ ap bound_word f.1 in
       let q = first_read t.0 (suc k) f.0.0 in let h = with_reading (Some q) m.0.hands in
       let v' = view_after (with_hands h m.0) e n in
-      let did = looked_still s r there (Bound t k) (few, small)
+      let did = looked_still s r there (Bound t k) (few, near)
       (few_tables shows o size slots id m w mine s r there t.0 inside, omega arith) (Some q) unread
       (λ z is. ap (λ (y : FlushRead). y.taken) (sym (same_Some q z is)))
       (λ z is. subst (ReadsAre size.seats r.core m.0.part) (same_Some q z is)
@@ -394,11 +337,14 @@ module _ {K : Type 0} (shows : K → Lasting) (o : Beside) (size : PathSize) (sl
         keeps,
         tt,
         did.0,
-        λ z k' u role low word. each_bound_name shows o size slots id m w mine t k 0
+        λ z k' u role low oldest' word. let a : t.0 ≡ u.0 = omega arith in
+            let other = oldest_is shows o size slots id m w mine s r there t.0 (suc k')
+            (subst (λ c. FlushOldest c m.0.part (suc k')) (sym a) oldest') in
+            each_bound_name shows o size slots id m w mine t k 0
             (λ z u k' key. (above : ℕ) × (n ≡ bound_word (Final (record { 0 = above })))
             × MadeAs z (Look z (Bound u k')) n
             (with_reading (Some (first_read u.0 (suc k') above)) m.0.hands) m.0 v' × (m.1 ≡ m.1))
-            (f.0.0, found, (refl, did.1), refl) z u k' 0 role few low word refl,
+            (f.0.0, found, (refl, did.1), refl) z u k' 0 role a (omega arith) refl,
       )
 
   pub ends_read : (t : Table) → TakesNone m.0.hands → t.0 < 16 → t.0 < m.0.size.tables

@@ -1,34 +1,10 @@
 -- After a sync that was refused the holder of the Sync turn learns what lies on the desk: at a
 -- look,
 -- or where it stops the log because the keeper has stopped.
-use Rattle.std.proofs.Common.{
-  ◌≡◌,
-  ℕ,
-  zero,
-  suc,
-  ◌<◌,
-  true,
-  cond,
-  List,
-  set,
-  Option,
-  Some,
-  None,
-  is_some,
-  IsTrue,
-  refl,
-  sym,
-  ap,
-  ◌∙◌,
-  subst,
-  ⊎_elim,
-  arith,
-}
-use Rattle.std.proofs.lemmas.List.Sorted.{
-  Contains-permutation,
-  IsPermutation-sym,
-  sum_by-IsPermutation,
-}
+use Rattle.std.proofs.Common.{◌≡◌, ℕ, zero, suc, ◌<◌, true, cond, List, set, Option, Some, None}
+use Rattle.std.proofs.Common.{is_some, IsTrue, refl, sym, ap, ◌∙◌, subst, ⊎_elim, arith}
+use Rattle.std.proofs.lemmas.List.Sorted.{Contains-permutation, IsPermutation-sym}
+use Rattle.std.proofs.lemmas.List.Sorted.{sum_by-IsPermutation}
 use Rattle.std.specs.List.{Contains, filter}
 use Rattle.std.specs.List.Sorted.{IsPermutation}
 use Rattle.std.specs.Prelude.{slice_index}
@@ -66,13 +42,7 @@ use Rattle.path_rule.specs.HandsAfter.{with_desk}
 use Rattle.path_rule.specs.Kept.{IsDepositedTo, MayBeKept}
 use Rattle.path_rule.specs.Lasts.{ends, fault_count, shown, refused_lasting}
 use Rattle.path_rule.specs.Rule.{Ruled, told_by, view_after, with_hands}
-use Rattle.path_rule.specs.TurnTold.{
-  IsKeptNow,
-  CarriesAs,
-  MadeRefused,
-  RefusedKept,
-  StoppedPut,
-}
+use Rattle.path_rule.specs.TurnTold.{IsKeptNow, CarriesAs, MadeRefused, RefusedKept, StoppedPut}
 use Rattle.path_rule.specs.Turns.{IsBarred, TurnRuns}
 use Rattle.path_rule.proofs.boxes.DeskChanged.{boxed_desk_turns}
 use Rattle.path_rule.proofs.log.KeptStays.{kept_stays}
@@ -221,7 +191,7 @@ module _ {K : Type 0} (shows : K → Lasting) (o : Beside) (size : PathSize) (sl
         keeps,
         tt,
         plays_to shows o size s r id w m.0 there mine e refl may tt tt tt
-            (rows_stay x e may (λ q. q) r.rows) n n None h found
+            tt (rows_stay x e may (λ q. q) r.rows) n n None h found
             (ap (λ q. seat_after m.0.part e (Number q) (told_by None h)) found) found k.0
             (kept_stays x (core_lawful shows o size s r) e may k.0 k.1) m.1 keeps
             (boxed_now s r there stopped (shown o size.at_open k.0 r.filed r.dropped x) v' refl
@@ -273,7 +243,7 @@ module _ {K : Type 0} (shows : K → Lasting) (o : Beside) (size : PathSize) (sl
         keeps,
         tt,
         plays_to shows o size s r id w m.0 there mine e refl may tt built tt
-            (rows_stay x e may (λ q. q) r.rows) value value None h refl refl tt k.0
+            tt (rows_stay x e may (λ q. q) r.rows) value value None h refl refl tt k.0
             (kept_stays x (core_lawful shows o size s r) e may k.0 k.1) m.1 keeps
             (boxed_now s r there (Some value) (shown o size.at_open k.0 r.filed r.dropped
             (next_of x e)) v' refl (outside shows o size slots id m w mine s r there held)

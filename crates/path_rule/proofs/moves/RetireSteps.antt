@@ -1,28 +1,6 @@
 -- The holder of a Flush turn retires a memtable in which nothing was placed.
-use Rattle.std.proofs.Common.{
-  ◌≡◌,
-  ℕ,
-  suc,
-  ◌+◌,
-  ◌*◌,
-  ◌<◌,
-  Bool,
-  true,
-  cond,
-  List,
-  [],
-  ◌∷◌,
-  ◌++◌,
-  Some,
-  None,
-  is_some,
-  refl,
-  sym,
-  ap,
-  ◌∙◌,
-  subst,
-  arith,
-}
+use Rattle.std.proofs.Common.{◌≡◌, ℕ, suc, ◌+◌, ◌*◌, ◌<◌, Bool, true, cond, List, [], ◌∷◌, ◌++◌}
+use Rattle.std.proofs.Common.{Some, None, is_some, refl, sym, ap, ◌∙◌, subst, arith}
 use Rattle.std.specs.Prelude.{not}
 use Rattle.std.specs.List.{Contains}
 use Rattle.std.proofs.lemmas.Option.{none-some, same_Some}
@@ -59,17 +37,8 @@ use Rattle.path_rule.proofs.boxes.OtherBoxes.{boxed_other}
 use Rattle.path_rule.proofs.boxes.SeenInterval.{all_seen}
 use Rattle.path_rule.proofs.log.RestsEmpty.{rests_empty}
 use Rattle.path_rule.proofs.moves.Looks.{few_tables, within}
-use Rattle.path_rule.proofs.moves.Moving.{
-  columns_now,
-  core_lawful,
-  kept_before,
-  part_is,
-  place_still,
-  plays_with,
-  reads_now,
-  reads_then,
-  was,
-}
+use Rattle.path_rule.proofs.moves.Moving.{columns_now, core_lawful, kept_before, part_is}
+use Rattle.path_rule.proofs.moves.Moving.{place_still, plays_with, reads_now, reads_then, was}
 use Rattle.path_rule.proofs.moves.TableTurns.{each_table_name}
 use Rattle.path_rule.proofs.places.ReadBack.{rows_stay}
 
@@ -120,12 +89,12 @@ module _ {K : Type 0} (shows : K → Lasting) (o : Beside) (size : PathSize) (sl
       } in let rows = rows_stay x e may (λ q. q) r.rows in
       let told = ap (λ (b : Bool). seat_after m.0.part e (Number 0)
       (record { files = b; marker = None })) (sym (ap not empty)) in
-      let C = columns_now shows o size s r id w m.0 there mine e refl may tt tt few rows f
+      let C = columns_now shows o size s r id w m.0 there mine e refl may tt tt few tt rows f
       f None h refl told in (
         v',
         keeps,
         tt,
-        plays_with shows o size s r id w m.0 there mine e refl may tt tt few rows f
+        plays_with shows o size s r id w m.0 there mine e refl may tt tt few tt rows f
             f None h refl told
             (sym (ap not empty), λ lower gave. absurd (none-some lower gave))
             (none_filed_now x w t f empty) m.1 keeps
@@ -141,7 +110,7 @@ module _ {K : Type 0} (shows : K → Lasting) (o : Beside) (size : PathSize) (sl
             (λ b Q. none-some b (sym (ap (λ (z : FlushRead). z.taken)
             (same_reading Q.0 q Q.1 sees.1) ∙ sees.4) ∙ Q.2)))
             (kept_before shows o size s r e may tt))
-            (reads_then shows o size s r id w m.0 there mine e refl may tt tt few rows f
+            (reads_then shows o size s r id w m.0 there mine e refl may tt tt few tt rows f
             f None h refl told (λ z is. absurd (none-some z is))),
         λ z u role _ word. each_table_name shows o size slots id m w mine 10 t
             (λ z u. MadeAs z (Put z (OldestLive u) f) f

@@ -1,38 +1,16 @@
 -- What a lawful state tells of counts, groups, claims and notes, where a step wants it.
-use Rattle.std.proofs.Common.{
-  ◌≡◌,
-  ℕ,
-  suc,
-  ◌+◌,
-  ◌-◌,
-  ◌%◌,
-  ◌^◌,
-  ◌<◌,
-  ◌≤◌,
-  true,
-  List,
-  [],
-  ◌∷◌,
-  length,
-  Some,
-  None,
-  refl,
-  sym,
-  ap,
-  ◌∙◌,
-  arith,
-  length-append,
-}
+use Rattle.std.proofs.Common.{◌≡◌, ℕ, suc, ◌^◌, ◌<◌, ◌≤◌, true, List, [], ◌∷◌, length, Some, None}
+use Rattle.std.proofs.Common.{refl, sym, ap, ◌∙◌, arith, length-append}
 use Rattle.std.specs.Prelude.{◌++◌}
 use Rattle.std.proofs.lemmas.List.{get_or_append_left, get_or_push}
 use Rattle.std.specs.List.{Contains, filter}
 use mathlib.Core.Logic.{dite}
 use native.Mathlib.Decide.{dec_lt, dec_le}
-use Rattle.op_core.specs.Tallies.{running_of, IsOpen, one_more, one_less}
+use Rattle.op_core.specs.Tallies.{running_of}
 use Rattle.op_core.specs.declared.count.Order.{Order}
 use Rattle.op_core.specs.declared.count.Order.TheVariants.{Write, Append}
 use Rattle.op_core.specs.declared.count.Tally.{Tally}
-use Rattle.op_core.specs.declared.count.Tally.TheVariants.{Open, Expired}
+use Rattle.op_core.specs.declared.count.Tally.TheVariants.{Open}
 use Rattle.path_core.specs.declared.event.Event.TheVariants.{Look}
 use Rattle.path_core.specs.declared.event.Place.TheVariants.{Current, Oldest}
 use Rattle.path_core.specs.declared.note.EntryNote.{EntryNote}
@@ -54,7 +32,7 @@ use Rattle.path_rule.specs.declared.slot.Slot.TheVariants.{Notes, Turn}
 use Rattle.path_rule.specs.declared.view.Role.{Role}
 use Rattle.path_rule.specs.declared.view.Role.TheVariants.{Steps}
 use Rattle.path_rule.specs.declared.view.View.{View}
-use Rattle.path_rule.specs.Layout.{tally_word, word_of}
+use Rattle.path_rule.specs.Layout.{word_for}
 use Rattle.path_rule.specs.Rule.{Was}
 use Rattle.path_rule.proofs.boxes.HandsStay.{SameBarriers}
 use Rattle.path_rule.proofs.log.Lending.{lasting_ends}
@@ -63,24 +41,14 @@ use Rattle.path_rule.proofs.moves.Moving.{was}
 pub same_seat : (ρ : Role) (w z : ℕ) → ρ ≡ Steps w → ρ ≡ Steps z → w ≡ z
 same_seat ρ w z a b = let e : Steps w ≡ Steps z = sym a ∙ b in cc
 
-pub more_word : (c : Tally) → tally_word c < 2 ^ 63
-    → IsOpen c × (tally_word (one_more c) ≡ tally_word c + 1)
-more_word (Open r) l = (tt, refl)
-more_word (Expired r) l = absurd (omega arith)
-
-pub less_word : (c : Tally) → 0 < running_of c → tally_word c < 2 ^ 64
-    → (tally_word c + (2 ^ 64 - 1)) % 2 ^ 64 ≡ tally_word (one_less c)
-less_word (Open r) l b = omega arith
-less_word (Expired r) l b = omega arith
-
--- a group that was found as current has a word
+-- the number of a group that was found as current fits its word
 pub current_below : (v : View) (w n : ℕ) (o : Order) (was : Was v w (Look w (Current o)))
-    → word_of (reading was.core (Current o)) ≡ n → n < 65536
+    → word_for (Current o) (reading was.core (Current o)) ≡ n → n < 2 ^ 47
 current_below v w n o was e = let more = current_is_made was.core was.lawful o in
     let rows = was.rows.groups o in omega arith
 
 pub oldest_below : (v : View) (w n : ℕ) (o : Order) (was : Was v w (Look w (Oldest o)))
-    → word_of (reading was.core (Oldest o)) ≡ n → n < 65536
+    → word_for (Oldest o) (reading was.core (Oldest o)) ≡ n → n < 2 ^ 47
 oldest_below v w n o was e = let more = current_is_made was.core was.lawful o in
     let rows = was.rows.groups o in let old = (was.lawful.orders.made_groups o).oldest in
     omega arith

@@ -1,33 +1,8 @@
 -- The steps of a memtable's switch, by the holder of its table's turn: the next memtable is made,
 -- the one below it is marked, raised and made final.
-use Rattle.std.proofs.Common.{
-  ◌≡◌,
-  ℕ,
-  suc,
-  ◌+◌,
-  ◌*◌,
-  ◌%◌,
-  ◌^◌,
-  ◌<◌,
-  ◌≤◌,
-  Bool,
-  true,
-  [],
-  ◌∷◌,
-  length,
-  Option,
-  Some,
-  None,
-  is_some,
-  refl,
-  sym,
-  ap,
-  ◌∙◌,
-  subst,
-  arith,
-  get_or-set_same,
-  get_or-set_other,
-}
+use Rattle.std.proofs.Common.{◌≡◌, ℕ, suc, ◌+◌, ◌*◌, ◌%◌, ◌^◌, ◌<◌, ◌≤◌, Bool, true, [], ◌∷◌}
+use Rattle.std.proofs.Common.{length, Option, Some, None, is_some, refl, sym, ap, ◌∙◌, subst, arith}
+use Rattle.std.proofs.Common.{get_or-set_same, get_or-set_other}
 use Rattle.std.specs.Prelude.{slice_index}
 use Rattle.std.specs.Option.{option_and_then, option_map}
 use Rattle.std.proofs.lemmas.List.{length-append}
@@ -42,7 +17,7 @@ use Rattle.op_core.specs.declared.count.Order.{Order}
 use Rattle.op_core.specs.declared.count.Order.TheVariants.{Write, Append}
 use Rattle.path_core.specs.declared.event.Event.TheVariants.{Switch, Finalise}
 use Rattle.path_core.specs.declared.event.Place.TheVariants.{Bound}
-use Rattle.path_core.specs.declared.event.SwitchPart.TheVariants.{Open, Mark}
+use Rattle.path_core.specs.declared.event.SwitchPart.TheVariants.{Clear, Open, Mark}
 use Rattle.path_core.specs.declared.seat.FlushTurn.{FlushTurn}
 use Rattle.path_core.specs.declared.seat.Marked.{Marked}
 use Rattle.path_core.specs.declared.seat.Seat.{Seat}
@@ -54,19 +29,9 @@ use Rattle.path_core.specs.declared.state.PathState.{PathState}
 use Rattle.path_core.specs.Allowed.{IsStep}
 use Rattle.path_core.specs.LawfulTables.{MarkedIsRaising}
 use Rattle.path_core.specs.Next.{next_of}
-use Rattle.path_core.specs.Parts.{
-  fresh_memtable,
-  fresh_table,
-  groups_of,
-  key_of_bound,
-  marked_in,
-  marked_of,
-  memtable_of,
-  seat_of,
-  seat_table,
-  stage_of,
-  table_of,
-}
+use Rattle.path_core.specs.Parts.{fresh_memtable, fresh_table, cleared_of, groups_of, key_of_bound}
+use Rattle.path_core.specs.Parts.{marked_in, marked_of, memtable_of, seat_of, seat_table, stage_of}
+use Rattle.path_core.specs.Parts.{table_of}
 use Rattle.path_core.specs.SeatAfter.{seat_after}
 use Rattle.path_core.specs.SeatParts.{made_final}
 use Rattle.path_core.specs.Words.{reading}
@@ -79,16 +44,20 @@ use Rattle.path_rule.specs.declared.view.Role.TheVariants.{Steps}
 use Rattle.path_rule.specs.declared.view.View.{View}
 use Rattle.path_rule.specs.Lasts.{shown}
 use Rattle.path_rule.specs.Layout.{bound_word, reading_at, word_of}
+use Rattle.path_rule.specs.Issued.{issued_in, opened_in}
+use Rattle.path_rule.specs.Limits.{made_below, most_memtables}
 use Rattle.path_rule.specs.Rule.{HasRows, Ruled, Was, told_by, view_after}
-use Rattle.path_rule.specs.TableTold.{MemtableFinal, MemtableMarked, MemtableOpened}
+use Rattle.path_rule.specs.TableTold.{MemtableFinal, MemtableMarked, MemtableOpened, PlaceCleared}
 use Rattle.path_rule.specs.Told.{Made}
-use Rattle.path_rule.specs.Switches.{FlushNewest, FlushOldest}
+use Rattle.path_rule.specs.Switches.{FlushCleared, FlushNewest, FlushOldest}
 use Rattle.path_rule.proofs.boxes.HeldBoxes.{boxed_stay}
-use Rattle.path_rule.proofs.moves.BoundSteps.{RaisesNow, each_bound_name}
+use Rattle.path_rule.proofs.moves.BoundSteps.{RaisesNow, each_bound_name, same_word}
+use Rattle.path_rule.proofs.log.Issues.{few_filled, one_of, opens_one}
 use Rattle.path_rule.proofs.moves.Looks.{acts, few_tables, own_part, within}
 use Rattle.path_rule.proofs.moves.Moving.{core_lawful, was}
 use Rattle.path_rule.proofs.moves.TableTurns.{each_table_name, held_at}
-use Rattle.path_rule.proofs.places.ReadBack.{log_small, read_back, rows_stay}
+use Rattle.path_rule.proofs.places.ShownSteps.{below_near}
+use Rattle.path_rule.proofs.places.ReadBack.{log_small, bound_read, rows_stay}
 
 -- the turn that is at a stage
 pub turn_at : (o : Option FlushTurn) (k : Switching)
@@ -110,21 +79,24 @@ final_word : (b : BoundOf) (k : ℕ) → b ≡ Raising (record { 0 = k }) → k 
 final_word b k is low = subst (λ (c : BoundOf).
     (bound_word c + 2 ^ 62) % 2 ^ 64 ≡ bound_word (made_final c)) (sym is) (omega arith)
 
--- One memtable more has a word.
+-- One memtable more has a number.
 rows_opened : (x : PathState) (w : ℕ) (t : Table) (f : ℕ) → HasRows x → t.0 < length x.tables
-    → length (table_of x t.0).memtables < 256 → HasRows (next_of x (Switch w t f Open))
-rows_opened x w t f rows inside few = record {
+    → length x.tables ≤ 16 → made_below 16 x < most_memtables
+    → HasRows (next_of x (Switch w t f Open))
+rows_opened x w t f rows inside narrow few = record {
   groups = λ o. by o;
   memtables = λ u. dite (ℕ_discrete u t.0)
       (λ same. let l = length-append (table_of x t.0).memtables (fresh_memtable ∷ []) in
-      subst (λ k. length (table_of (next_of x (Switch w t f Open)) k).memtables ≤ 256) (sym same)
-      (subst (λ q. length q.memtables ≤ 256)
-      (sym (get_or-set_same x.tables t.0 _ fresh_table inside)) (omega arith)))
-      (λ apart. subst (λ q. length q.memtables ≤ 256)
+      let one = one_of x t.0 16 (omega (arith, inside, narrow)) in
+      subst (λ k. length (table_of (next_of x (Switch w t f Open)) k).memtables ≤ 2 ^ 47) (sym same)
+      (subst (λ q. length q.memtables ≤ 2 ^ 47)
+      (sym (get_or-set_same x.tables t.0 _ fresh_table inside)) (omega (arith, l, one, few))))
+      (λ apart. subst (λ q. length q.memtables ≤ 2 ^ 47)
       (sym (get_or-set_other x.tables t.0 u _ fresh_table apart)) (rows.memtables u));
+  all = (let more = opens_one x w t f inside 16 narrow in omega (arith, more, few));
 }
   where
-    by : (o : Order) → length (groups_of (next_of x (Switch w t f Open)) o).tallies ≤ 65536
+    by : (o : Order) → length (groups_of (next_of x (Switch w t f Open)) o).tallies ≤ 2 ^ 47
     by Write = rows.groups Write
     by Append = rows.groups Append
 
@@ -153,11 +125,42 @@ module _ {K : Type 0} (shows : K → Lasting) (o : Beside) (size : PathSize) (sl
     marked_now t k at = stage_exact r.core (core_lawful shows o size s r) w t (MarkedStage k)
         (stage_now t (MarkedStage k) at)
 
+  -- the place of the next memtable is cleared
+  pub clears_place : (t : Table) (f n : ℕ) → t.0 < 16 → t.0 < m.0.size.tables
+      → FlushNewest t.0 m.0.part n → FlushOldest t.0 m.0.part n → f ≡ suc n
+      → Allows (Ruled shows o size) slots id m (136 + 16 * (f % 4) + t.0) (λ _. 0)
+      (λ _. PlaceCleared (step slots (136 + 16 * (f % 4) + t.0) 0 0 none) m 0)
+  clears_place t f n few inside newest oldest up s r _ there _ = let x = r.core in
+      let e = Switch w t f Clear in let v' = view_after m.0 e 0 in
+      let new = newest_is s r there t.0 n newest in
+      let old = oldest_is s r there t.0 n oldest in
+      let held = ap (λ (k : Option FlushTurn). is_some k)
+      (own_part shows o size slots id m w mine s r there
+      (λ (p : Seat). (seat_table p t.0).flush) (Some newest.0) newest.1) in
+      let may : IsStep x e = record {
+        seat = within shows o size slots id m w mine s r there;
+        is_there = few_tables shows o size slots id m w mine s r there t.0 inside;
+        row = (held, sym old ∙ new, up ∙ ap suc new);
+      } in
+      acts shows o size slots id m w mine s r there e refl may tt tt tt
+      tt (rows_stay x e may (λ q. q) r.rows) 0 0 refl refl tt
+      (λ C. boxed_stay shows size.seats x.notes
+      (shown o size.at_open r.kept_to r.filed r.dropped x) x.claims x.claims x.append x.append
+      s.homes s.views r.boxed
+      id w m.0 v' there mine refl refl refl (λ i g l _ _. (l, refl)) refl C.append C.issue refl)
+      tt tt (PlaceCleared (step slots (136 + 16 * (f % 4) + t.0) 0 0 none) m 0)
+      (λ u z h n' q role high newest' up' word. let a : t.0 ≡ q.0 = omega arith in
+      let same = newest_is s r there t.0 n' (subst (λ k. FlushNewest k m.0.part n') (sym a) newest')
+      in each_bound_name shows o size slots id m w mine t f 0
+      (λ z q h key. Made z (Switch z q h Clear) 0 m (v', m.1)) ((refl, u), refl)
+      z q h 0 role a (omega arith) refl)
+
   pub opens_memtable : (t : Table) (f n : ℕ) → t.0 < 16 → t.0 < m.0.size.tables
-      → FlushNewest t.0 m.0.part n → FlushOldest t.0 m.0.part n → f ≡ suc n → f < 256
+      → FlushNewest t.0 m.0.part n → FlushOldest t.0 m.0.part n → f ≡ suc n
+      → FlushCleared t.0 m.0.part f → opened_in m.0.trail ≤ issued_in m.0.trail
       → Allows (Ruled shows o size) slots id m (8 + 4 * t.0) (λ _. f)
       (λ _. MemtableOpened (step slots (8 + 4 * t.0) f 0 none) m f)
-  opens_memtable t f n few inside newest oldest up small s r _ there _ = let x = r.core in
+  opens_memtable t f n few inside newest oldest up clean small s r _ there _ = let x = r.core in
       let e = Switch w t f Open in let v' = view_after m.0 e f in
       let L = core_lawful shows o size s r in
       let new = newest_is s r there t.0 n newest in
@@ -170,10 +173,18 @@ module _ {K : Type 0} (shows : K → Lasting) (o : Beside) (size : PathSize) (sl
       let may : IsStep x e = record {
         seat = within shows o size slots id m w mine s r there;
         is_there = within_tables;
-        row = (held, sym old ∙ new, up ∙ ap suc new);
+        row = (
+          held,
+          sym old ∙ new,
+          up ∙ ap suc new,
+          own_part shows o size slots id m w mine s r there (λ (p : Seat). cleared_of p t.0)
+              (Some f) (ap (λ (k : Option FlushTurn). option_and_then (λ (turn : FlushTurn).
+              turn.cleared) k) clean.1 ∙ clean.2),
+        );
       } in
       acts shows o size slots id m w mine s r there e refl may tt tt few
-      (rows_opened x w t f r.rows within_tables (omega arith)) f f refl refl tt
+      small (rows_opened x w t f r.rows within_tables L.sized.limits.few_tables
+      (few_filled size r.events x r.fit r.run r.few r.paid)) f f refl refl tt
       (λ C. boxed_stay shows size.seats x.notes
       (shown o size.at_open r.kept_to r.filed r.dropped x) x.claims x.claims x.append x.append
       s.homes s.views r.boxed
@@ -182,11 +193,11 @@ module _ {K : Type 0} (shows : K → Lasting) (o : Beside) (size : PathSize) (sl
       (λ u z q role _ word. each_table_name shows o size slots id m w mine 8 t
       (λ z q. Made z (Switch z q f Open) f m (v', m.1)) ((refl, u), refl) z q role word)
 
-  pub marks_memtable : (t : Table) (f : ℕ) → t.0 < 16 → f < 256 → t.0 < m.0.size.tables
+  pub marks_memtable : (t : Table) (f : ℕ) → t.0 < 16 → t.0 < m.0.size.tables
       → stage_of m.0.part t.0 ≡ Some (Begun (suc f))
-      → Allows (Ruled shows o size) slots id m (131144 + 16 * f + t.0) (λ _. 2 ^ 62)
-      (λ _. MemtableMarked (step slots (131144 + 16 * f + t.0) (2 ^ 62) 0 none) m (2 ^ 62))
-  marks_memtable t f few small inside at s r _ there _ = let x = r.core in
+      → Allows (Ruled shows o size) slots id m (136 + 16 * (f % 4) + t.0) (λ _. 2 ^ 62)
+      (λ _. MemtableMarked (step slots (136 + 16 * (f % 4) + t.0) (2 ^ 62) 0 none) m (2 ^ 62))
+  marks_memtable t f few inside at s r _ there _ = let x = r.core in
       let e = Switch w t f Mark in let v' = view_after m.0 e (2 ^ 62) in
       let L = core_lawful shows o size s r in
       let now = stage_now s r there t.0 (Begun (suc f)) at in
@@ -206,16 +217,19 @@ module _ {K : Type 0} (shows : K → Lasting) (o : Beside) (size : PathSize) (sl
           subst (λ k. (memtable_of x t.0 k).bound ≡ Live) same B.live,
         );
       } in
-      acts shows o size slots id m w mine s r there e refl may tt tt (few, small)
-      (rows_stay x e may (λ q. q) r.rows) (2 ^ 62) (2 ^ 62) refl refl tt
+      let near = below_near x L t.0 f new in
+      acts shows o size slots id m w mine s r there e refl may tt tt (few, near)
+      tt (rows_stay x e may (λ q. q) r.rows) (2 ^ 62) (2 ^ 62) refl refl tt
       (λ C. boxed_stay shows size.seats x.notes
       (shown o size.at_open r.kept_to r.filed r.dropped x) x.claims x.claims x.append x.append
       s.homes s.views r.boxed
       id w m.0 v' there mine refl refl refl (λ i g l _ _. (l, refl)) refl C.append C.issue refl)
-      tt tt (MemtableMarked (step slots (131144 + 16 * f + t.0) (2 ^ 62) 0 none) m (2 ^ 62))
-      (λ u z h q role high word. each_bound_name shows o size slots id m w mine t f 0
+      tt tt (MemtableMarked (step slots (136 + 16 * (f % 4) + t.0) (2 ^ 62) 0 none) m (2 ^ 62))
+      (λ u z h q role high known word.
+      let S = same_word shows o size slots id m w mine s r there t q f h few high near known word in
+      each_bound_name shows o size slots id m w mine t f 0
       (λ z q h key. Made z (Switch z q h Mark) (2 ^ 62) m (v', m.1)) ((refl, u), refl)
-      z q h 0 role few high word refl)
+      z q h 0 role S.0 S.1 refl)
 
   -- the holder of the table's turn may raise what it marked to the log key that it found since
   pub holder_raises : (t f to : ℕ) (raised : Bool)
@@ -231,26 +245,28 @@ module _ {K : Type 0} (shows : K → Lasting) (o : Beside) (size : PathSize) (sl
         made = omega arith;
         above = λ live. let q = sym M.raising ∙ live in cc;
         low = (M.fresh to refl).1;
+        near = below_near x (core_lawful shows o size s r) t f M.below_newest;
         raiser = inr (record {
           raised = raised;
           marked = marked_at (seat_of x w) t k (stage_now s r there t (MarkedStage k) at);
         });
       }
 
-  pub finalises : (t : Table) (f : ℕ) (key : Option ℕ) → t.0 < 16 → f < 256
+  pub finalises : (t : Table) (f : ℕ) (key : Option ℕ) → t.0 < 16
       → t.0 < m.0.size.tables
       → stage_of m.0.part t.0
       ≡ Some (MarkedStage (record { memtable = f; key = key; raised = true }))
-      → Allows (Ruled shows o size) slots id m (131144 + 16 * f + t.0)
+      → Allows (Ruled shows o size) slots id m (136 + 16 * (f % 4) + t.0)
       (λ n. (n + 2 ^ 62) % 2 ^ 64)
-      (MemtableFinal (step slots (131144 + 16 * f + t.0) (2 ^ 62) 0 none) m)
-  finalises t f key few small inside at s r _ there _ =
-      let i : ℕ = 131144 + 16 * f + t.0 in let n = slice_index s.words i in let x = r.core in
+      (MemtableFinal (step slots (136 + 16 * (f % 4) + t.0) (2 ^ 62) 0 none) m)
+  finalises t f key few inside at s r _ there _ =
+      let i : ℕ = 136 + 16 * (f % 4) + t.0 in let n = slice_index s.words i in let x = r.core in
       let L = core_lawful shows o size s r in
       let k : Marked = record { memtable = f; key = key; raised = true } in
       let M = marked_now s r there t.0 k at in
       let b = (memtable_of x t.0 f).bound in
-      let found : n ≡ bound_word b = r.words (Bound t f) (few, small) in
+      let near = below_near x L t.0 f M.below_newest in
+      let found : n ≡ bound_word b = r.words (Bound t f) (few, near) in
       let e = Finalise w t f in let v' = view_after m.0 e n in
       let long = (L.switches.tables t.0).bounds_rise.made in let next = M.below_newest in
       let below = (L.switches.tables t.0).bounds_rise.below_log f in
@@ -268,19 +284,21 @@ module _ {K : Type 0} (shows : K → Lasting) (o : Beside) (size : PathSize) (sl
           marked = marked_at (seat_of x w) t.0 k (stage_now s r there t.0 (MarkedStage k) at);
         };
       } in
-      acts shows o size slots id m w mine s r there e refl may tt tt (few, small)
-      (rows_stay x e may (λ q. q) r.rows) ((n + 2 ^ 62) % 2 ^ 64) n
+      acts shows o size slots id m w mine s r there e refl may tt tt (few, near)
+      tt (rows_stay x e may (λ q. q) r.rows) ((n + 2 ^ 62) % 2 ^ 64) n
       (ap (λ z. (z + 2 ^ 62) % 2 ^ 64) found ∙ final_word b M.bound.0 M.raising low)
       (ap (λ k. seat_after m.0.part e k (told_by None m.0.hands))
-      (ap (reading_at (Bound t f)) found ∙ read_back x L (Bound t f)))
+      (ap (reading_at (Bound t f)) found ∙ bound_read x L t f))
       found
       (λ C. boxed_stay shows size.seats x.notes
       (shown o size.at_open r.kept_to r.filed r.dropped x) x.claims x.claims x.append x.append
       s.homes s.views r.boxed
       id w m.0 v' there mine refl refl refl (λ i g l _ _. (l, refl)) refl C.append C.issue refl)
       tt tt (MemtableFinal (step slots i (2 ^ 62) 0 none) m n)
-      (λ u z h q role high word. each_bound_name shows o size slots id m w mine t f 0
+      (λ u z h q role high known word.
+      let S = same_word shows o size slots id m w mine s r there t q f h few high near known word in
+      each_bound_name shows o size slots id m w mine t f 0
       (λ z q h key. Made z (Finalise z q h) n m (v', m.1)
       × ((was : Was m.0 z (Finalise z q h)) × (word_of (reading was.core (Bound q h)) ≡ n)))
       (((refl, u), refl), (was shows o size s r id w m.0 there mine e may tt, sym found))
-      z q h 0 role few high word refl)
+      z q h 0 role S.0 S.1 refl)

@@ -1,34 +1,9 @@
 -- The holder of the Sync turn puts the synced key at the last marker.
-use Rattle.std.proofs.Common.{
-  ◌≡◌,
-  ℕ,
-  ◌<◌,
-  ◌≤◌,
-  true,
-  List,
-  [],
-  ◌∷◌,
-  ◌++◌,
-  set,
-  Option,
-  Some,
-  None,
-  is_some,
-  IsTrue,
-  refl,
-  sym,
-  ap,
-  ◌∙◌,
-  subst,
-  ⊎_elim,
-  arith,
-}
+use Rattle.std.proofs.Common.{◌≡◌, ℕ, ◌<◌, ◌≤◌, true, List, [], ◌∷◌, ◌++◌, set, Option, Some, None}
+use Rattle.std.proofs.Common.{is_some, IsTrue, refl, sym, ap, ◌∙◌, subst, ⊎_elim, arith}
 use Rattle.std.specs.Prelude.{◌⊎◌}
-use Rattle.std.proofs.lemmas.List.Elements.{
-  Contains-append_left,
-  Contains-append_right,
-  Contains-append_cases,
-}
+use Rattle.std.proofs.lemmas.List.Elements.{Contains-append_left, Contains-append_right}
+use Rattle.std.proofs.lemmas.List.Elements.{Contains-append_cases}
 use Rattle.std.proofs.lemmas.List.{map-append}
 use Rattle.std.specs.List.{Contains, filter}
 use Rattle.std.specs.Option.{option_map}
@@ -165,7 +140,7 @@ module _ {K : Type 0} (shows : K → Lasting) (o : Beside) (size : PathSize) (sl
         keeps,
         tt,
         plays_to shows o size s r id w m.0 there mine e refl may tt tt tt
-            (rows_stay x e may (λ q. q) r.rows) value value None h refl refl tt value
+            tt (rows_stay x e may (λ q. q) r.rows) value value None h refl refl tt value
             (inl (omega arith)) m.1 keeps
             (subst (λ q. Boxed shows size.seats x.notes q x.claims x.append s.homes
             (set s.views id v')) now_is boxed) tt (refl, refl, refl, refl) tt tt,

@@ -1,28 +1,6 @@
 -- A table's Flush turn is taken and given back.
-use Rattle.std.proofs.Common.{
-  ◌≡◌,
-  ◌≢◌,
-  ℕ,
-  ◌+◌,
-  ◌*◌,
-  ◌<◌,
-  eqb,
-  Bool,
-  true,
-  false,
-  cond,
-  Option,
-  Some,
-  None,
-  is_some,
-  refl,
-  sym,
-  ap,
-  ◌∙◌,
-  subst,
-  ⊎_elim,
-  arith,
-}
+use Rattle.std.proofs.Common.{◌≡◌, ◌≢◌, ℕ, ◌+◌, ◌*◌, ◌<◌, eqb, Bool, true, false, cond, Option}
+use Rattle.std.proofs.Common.{Some, None, is_some, refl, sym, ap, ◌∙◌, subst, ⊎_elim, arith}
 use Rattle.std.specs.Prelude.{slice_index, ◌⊎◌}
 use Rattle.std.specs.List.{list_any}
 use Rattle.std.specs.Option.{option_map}
@@ -65,15 +43,8 @@ use Rattle.path_rule.specs.TableTold.{FlushGiven, FlushTaken}
 use Rattle.path_rule.specs.Told.{Made}
 use Rattle.path_rule.specs.Turns.{FoundPast}
 use Rattle.path_rule.proofs.boxes.HeldBoxes.{boxed_stay}
-use Rattle.path_rule.proofs.moves.Looks.{
-  Owes,
-  acts,
-  as_part,
-  few_tables,
-  look_owes,
-  own_part,
-  within,
-}
+use Rattle.path_rule.proofs.moves.Looks.{Owes, acts, as_part, few_tables, look_owes, own_part}
+use Rattle.path_rule.proofs.moves.Looks.{within}
 use Rattle.path_rule.proofs.moves.Moving.{core_lawful, reads_now}
 use Rattle.path_rule.proofs.moves.StepFacts.{known_groups, same_seat}
 use Rattle.path_rule.proofs.places.ReadBack.{rows_stay}
@@ -129,7 +100,7 @@ module _ {K : Type 0} (shows : K → Lasting) (o : Beside) (size : PathSize) (sl
         row = (subst IsIdle is idle, free);
       } in
       acts shows o size slots id m w mine s r there e refl may tt tt few
-      (rows_stay x e may (λ q. q) r.rows) 1 1 refl refl tt
+      tt (rows_stay x e may (λ q. q) r.rows) 1 1 refl refl tt
       (λ C. boxed_stay shows size.seats x.notes
       (shown o size.at_open r.kept_to r.filed r.dropped x) x.claims x.claims x.append x.append
       s.homes s.views r.boxed
@@ -239,7 +210,7 @@ module _ {K : Type 0} (shows : K → Lasting) (o : Beside) (size : PathSize) (sl
         row = settled_now s r there t.0 through;
       } in
       acts shows o size slots id m w mine s r there e refl may tt tt few
-      (rows_stay x e may (λ q. q) r.rows) 0 0 refl refl tt
+      tt (rows_stay x e may (λ q. q) r.rows) 0 0 refl refl tt
       (λ C. boxed_stay shows size.seats x.notes
       (shown o size.at_open r.kept_to r.filed r.dropped x) x.claims x.claims x.append x.append
       s.homes s.views r.boxed

@@ -1,26 +1,6 @@
 -- The Sync turn is taken and given back, with the desk.
-use Rattle.std.proofs.Common.{
-  ◌≡◌,
-  ◌≢◌,
-  ℕ,
-  eqb,
-  Bool,
-  false,
-  true,
-  List,
-  ◌∷◌,
-  cond,
-  set,
-  None,
-  is_some,
-  IsTrue,
-  refl,
-  sym,
-  ap,
-  ◌∙◌,
-  subst,
-  arith,
-}
+use Rattle.std.proofs.Common.{◌≡◌, ◌≢◌, ℕ, eqb, Bool, false, true, List, ◌∷◌, cond, set, None}
+use Rattle.std.proofs.Common.{is_some, IsTrue, refl, sym, ap, ◌∙◌, subst, arith}
 use Rattle.std.specs.Prelude.{slice_index}
 use Rattle.std.specs.List.{list_any}
 use mathlib.Core.Option.{none}
@@ -94,7 +74,7 @@ module _ {K : Type 0} (shows : K → Lasting) (o : Beside) (size : PathSize) (sl
         takes desk_box home.0,
         home.1,
         plays shows o size s r id w m.0 there mine e refl may tt tt tt
-            (rows_stay x e may (λ q. q) r.rows) 1 1 None h refl
+            tt (rows_stay x e may (λ q. q) r.rows) 1 1 None h refl
             (ap (λ k. seat_after m.0.part e (Number 1) (record { files = false; marker = k }))
             (sym r.boxed.marked)) tt m.1 (takes desk_box home.0)
             (boxed_desk_take shows size.seats x.notes
@@ -168,7 +148,7 @@ module _ {K : Type 0} (shows : K → Lasting) (o : Beside) (size : PathSize) (sl
         gives,
         tt,
         plays shows o size s r id w m.0 there mine e refl may tt tt tt
-            (rows_stay x e may (λ q. q) r.rows) 0 0 None h refl refl tt m.1 gives
+            tt (rows_stay x e may (λ q. q) r.rows) 0 0 None h refl refl tt m.1 gives
             (subst
             (λ l. Boxed shows size.seats x.notes (shown o size.at_open r.kept_to r.filed r.dropped
             x) x.claims x.append

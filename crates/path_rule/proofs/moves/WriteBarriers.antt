@@ -1,28 +1,8 @@
 -- The holder of the Sync turn issues a barrier of the write order.
-use Rattle.std.proofs.Common.{
-  ◌≡◌,
-  ℕ,
-  suc,
-  ◌+◌,
-  ◌*◌,
-  ◌%◌,
-  ◌^◌,
-  ◌<◌,
-  ◌≤◌,
-  [],
-  ◌∷◌,
-  length,
-  Some,
-  None,
-  is_some,
-  IsTrue,
-  refl,
-  sym,
-  ap,
-  ◌∙◌,
-  subst,
-  arith,
-}
+use Rattle.op_core.specs.CountWords.{count_word}
+use Rattle.op_core.proofs.CountWords.{expired_word}
+use Rattle.std.proofs.Common.{◌≡◌, ℕ, suc, ◌+◌, ◌*◌, ◌%◌, ◌^◌, ◌<◌, ◌≤◌, [], ◌∷◌, length, Some}
+use Rattle.std.proofs.Common.{None, is_some, IsTrue, refl, sym, ap, ◌∙◌, subst, arith}
 use Rattle.std.specs.Prelude.{slice_index}
 use Rattle.std.proofs.lemmas.List.{length-append}
 use mathlib.Core.Option.{none}
@@ -30,12 +10,8 @@ use Rattle.atomic_table.specs.Table.{State, Me, step, keeps, Allows}
 use Rattle.op_core.specs.declared.count.Order.{Order}
 use Rattle.op_core.specs.declared.count.Order.TheVariants.{Write, Append}
 use Rattle.op_core.specs.declared.count.Tally.TheVariants.{Open}
-use Rattle.path_core.specs.declared.event.Event.TheVariants.{
-  OpenGroup,
-  MoveCurrent,
-  Expire,
-  Advance,
-}
+use Rattle.path_core.specs.declared.event.Event.TheVariants.{OpenGroup, MoveCurrent, Expire}
+use Rattle.path_core.specs.declared.event.Event.TheVariants.{Advance}
 use Rattle.path_core.specs.declared.event.Place.TheVariants.{Count}
 use Rattle.path_core.specs.declared.event.Reading.TheVariants.{Number}
 use Rattle.path_core.specs.declared.seat.Issue.TheVariants.{Rest, Opened, Moved}
@@ -54,34 +30,30 @@ use Rattle.path_rule.specs.declared.slot.Slot.{Slot}
 use Rattle.path_rule.specs.declared.view.PathSize.{PathSize}
 use Rattle.path_rule.specs.declared.view.Role.TheVariants.{Steps}
 use Rattle.path_rule.specs.declared.view.View.{View}
-use Rattle.path_rule.specs.Layout.{tally_word}
 use Rattle.path_rule.specs.Rule.{Ruled, told_by, view_after, HasRows, Was}
+use Rattle.path_rule.specs.Issued.{issued_in, most_issued}
 use Rattle.path_rule.specs.Told.{Made}
 use Rattle.path_rule.specs.TurnTold.{WriteOpened, WriteMoved, WriteExpired, WriteAdvanced}
 use Rattle.path_rule.specs.Turns.{TurnSaw, TurnOld, TurnGone}
-use Rattle.path_rule.proofs.moves.HolderFacts.{
-  expired_word,
-  at_issue,
-  is_held,
-  outside,
-  has,
-  issue_at,
-}
+use Rattle.path_rule.proofs.log.Issues.{few_made}
+use Rattle.path_rule.proofs.moves.HolderFacts.{at_issue, is_held, outside, has, issue_at}
 use Rattle.path_rule.proofs.moves.Looks.{within, own_part, each_name, each_seat_name}
 use Rattle.path_rule.proofs.moves.Moving.{core_lawful, was, plays}
 use Rattle.path_rule.proofs.moves.TurnFacts.{exact_of, now_is, unseen}
-use Rattle.path_rule.proofs.places.ReadBack.{rows_stay, count_small}
+use Rattle.path_rule.proofs.places.ReadBack.{kept_below, rows_stay, count_small}
+use Rattle.path_rule.proofs.places.ShownSteps.{open_shown}
 use Rattle.path_rule.proofs.seats.HolderKnows.{still}
 
 module _ {K : Type 0} (shows : K → Lasting) (o : Beside) (size : PathSize) (slots id : ℕ)
     (m : Me (Slot K) View) (w : ℕ) (mine : m.0.role ≡ Steps w) where
-  pub opens_write : (g c : ℕ) → HasWaiting m.0.part → IsTrue (is_some m.0.part.sync)
+  pub opens_write : (g c d : ℕ) → HasWaiting m.0.part → IsTrue (is_some m.0.part.sync)
       → issue_of m.0.part ≡ Rest → TurnSaw Write m.0.part c → g ≡ suc c
-      → m.0.hands.box_taken ≡ None → g < 65536
-      → Allows (Ruled shows o size) slots id m (72 + 2 * g) (λ _. 0)
-      (λ _. WriteOpened (step slots (72 + 2 * g) 0 0 none) m 0)
-  opens_write g c waits held calm saw up empty fits s r _ there _ = let x = r.core in
-      let e = OpenGroup w Write g in let v' = view_after m.0 e 0 in
+      → TurnOld Write m.0.part d → g ≤ d + 31 → m.0.hands.box_taken ≡ None
+      → issued_in m.0.trail < most_issued
+      → Allows (Ruled shows o size) slots id m (72 + 2 * (g % 32)) (λ _. 65536 * g)
+      (λ _. WriteOpened (step slots (72 + 2 * (g % 32)) (65536 * g) 0 none) m (65536 * g))
+  opens_write g c d waits held calm saw up old near empty fits s r _ there _ = let x = r.core in
+      let e = OpenGroup w Write g in let n : ℕ = 65536 * g in let v' = view_after m.0 e n in
       let law = core_lawful shows o size s r in
       let now = now_is shows o size slots id m w mine s r there held Write c saw in
       let t = at_rest m.0.part held calm in
@@ -96,23 +68,26 @@ module _ {K : Type 0} (shows : K → Lasting) (o : Beside) (size : PathSize) (sl
           own_part shows o size
               slots id m w mine s r there issue_of Rest calm,
           up ∙ ap suc now,
+          let least = (exact_of shows o size slots id m w mine s r there held Write old.0
+              old.1).oldest d old.2 in omega arith,
         );
       } in
-      let told = refl in
+      let told : n ≡ 0 + 65536 * g = omega arith in
       let wants : WantsBarrier Write x w = (wanted_by_stage x law w).1 (subst HasWaiting
       (sym (own_part shows o size slots id m w mine s r there (λ p. p) m.0.part refl)) waits) in
       let out = outside shows o size slots id m w mine s r there held in (
         v',
         keeps,
         tt,
-        plays shows o size s r id w m.0 there mine e refl may tt wants fits
-            (rows s r g (let q = up ∙ ap suc now in omega arith)) 0 0 None m.0.hands told refl tt
+        plays shows o size s r id w m.0 there mine e refl may tt wants tt
+            fits (rows s r g (let all = few_made size r.events x r.fit r.run r.few
+            in omega (arith, all))) n n None m.0.hands told refl tt
             m.1 keeps
             (unseen shows o size slots id m w mine s r there held
             (next_of x e).append v' refl refl refl out
             (still _ m.0.part.sync held) refl empty) tt (refl, refl, refl, refl) tt tt,
-        (λ z q role _ word. each_name shows o size slots id m w mine 72 g
-            (λ z q. Made z (OpenGroup z Write q) 0 m (v', m.1)
+        (λ z q c' role saw' up'. each_name shows o size slots id m w mine g
+            (λ z q. Made z (OpenGroup z Write q) n m (v', m.1)
             × ((was : Was m.0 z (OpenGroup z Write q))
             × IsAllowed was.core (OpenGroup z Write q))) (
               ((refl, was shows o size s r id w m.0 there mine e may tt), refl),
@@ -124,15 +99,22 @@ module _ {K : Type 0} (shows : K → Lasting) (o : Beside) (size : PathSize) (sl
                   row = (may.row, wants);
                 },
               ),
-            ) z q role word),
+            ) z q role (up ∙ (ap suc (now
+            ∙ sym (now_is shows o size slots id m w mine s r there held Write c' saw'))
+            ∙ sym up'))),
       )
     where
       rows : (s : State (Slot K) View) (r : Ruled shows o size s) (g : ℕ)
-          → length r.core.write.tallies < 65536 → HasRows (next_of r.core (OpenGroup w Write g))
-      rows s r g more = record { groups = λ o. by o; memtables = r.rows.memtables }
+          → length r.core.write.tallies < 2 ^ 47 → HasRows (next_of r.core (OpenGroup w Write g))
+      rows s r g more = record {
+        groups = λ o. by o;
+        memtables = r.rows.memtables;
+        all = (let same = kept_below r.core (next_of r.core (OpenGroup w Write g)) (λ u. refl) 16 in
+            let low = r.rows.all in omega (arith, same, low));
+      }
         where
           by : (o : Order) → length (groups_of
-              (next_of r.core (OpenGroup w Write g)) o).tallies ≤ 65536
+              (next_of r.core (OpenGroup w Write g)) o).tallies ≤ 2 ^ 47
           by Write = let l = length-append r.core.write.tallies (Open 0 ∷ []) in omega arith
           by Append = r.rows.groups Append
 
@@ -164,7 +146,7 @@ module _ {K : Type 0} (shows : K → Lasting) (o : Beside) (size : PathSize) (sl
         keeps,
         tt,
         plays shows o size s r id w m.0 there mine e refl may tt tt tt
-            (rows_stay x e may (λ q. q) r.rows) g c None m.0.hands refl
+            tt (rows_stay x e may (λ q. q) r.rows) g c None m.0.hands refl
             (ap (λ k. seat_after m.0.part e (Number k) (told_by None m.0.hands)) now) tt m.1
             keeps
             (unseen shows o size slots id m w mine s r there held x.append v' refl refl refl out
@@ -178,12 +160,11 @@ module _ {K : Type 0} (shows : K → Lasting) (o : Beside) (size : PathSize) (sl
       )
 
   pub expires_write : (g c : ℕ) → issue_of m.0.part ≡ Moved Write → TurnSaw Write m.0.part c
-      → suc g ≡ c → m.0.hands.box_taken ≡ None → g < 65536
-      → Allows (Ruled shows o size) slots id m (72 + 2 * g) (λ n. (n + 2 ^ 63) % 2 ^ 64)
-      (WriteExpired (step slots (72 + 2 * g) (2 ^ 63) 0 none) m)
-  expires_write g c doing saw up empty fits s r _ there low = let n =
-      slice_index s.words (72 + 2 * g) in let x = r.core in let k = tally_of x Write g in
-      let found : n ≡ tally_word k = r.words (Count Write g) fits in
+      → suc g ≡ c → m.0.hands.box_taken ≡ None
+      → Allows (Ruled shows o size) slots id m (72 + 2 * (g % 32)) (λ n. (n + 2 ^ 63) % 2 ^ 64)
+      (WriteExpired (step slots (72 + 2 * (g % 32)) (2 ^ 63) 0 none) m)
+  expires_write g c doing saw up empty s r _ there low = let n =
+      slice_index s.words (72 + 2 * (g % 32)) in let x = r.core in let k = tally_of x Write g in
       let e = Expire w Write g in let v' = view_after m.0 e n in
       let law = core_lawful shows o size s r in
       let t = at_issue m.0.part (Moved Write) (λ q. cc) doing in
@@ -193,6 +174,8 @@ module _ {K : Type 0} (shows : K → Lasting) (o : Beside) (size : PathSize) (sl
       let G = (law.orders.counts_stand_for_seats Write).each g in
       let unclosed = G.replaced is (up ∙ now) in let more = current_is_made x law Write in
       let made : g < length x.write.tallies = omega arith in
+      let fits = open_shown x law Write g made unclosed in
+      let found : n ≡ count_word g k = r.words (Count Write g) fits in
       let may : IsStep x e = record {
         seat = within shows o size slots id m w mine s r there;
         is_there = made;
@@ -203,20 +186,23 @@ module _ {K : Type 0} (shows : K → Lasting) (o : Beside) (size : PathSize) (sl
           unclosed,
         );
       } in
+      let few = count_small x law Write g in let numbers = r.rows.groups Write in
       let told = ap (λ z. (z + 2 ^ 63) % 2 ^ 64) found
-      ∙ expired_word k unclosed (count_small x law Write g) in
+      ∙ expired_word g k unclosed (omega arith) (omega arith) in
       let out = outside shows o size slots id m w mine s r there held in (
         v',
         keeps,
         tt,
         plays shows o size s r id w m.0 there mine e refl may tt tt fits
-            (rows_stay x e may (λ q. q) r.rows)
+            tt (rows_stay x e may (λ q. q) r.rows)
             ((n + 2 ^ 63) % 2 ^ 64) n None m.0.hands told refl tt m.1 keeps
             (unseen shows o size slots id m w mine s r there held x.append v' refl refl refl out
             (still _ m.0.part.sync held) refl empty) tt (refl, refl, refl, refl) tt tt,
-        (λ z q role _ word. each_name shows o size slots id m w mine 72 g
+        (λ z q c' role saw' up'. each_name shows o size slots id m w mine g
             (λ z q. Made z (Expire z Write q) n m (v', m.1))
-            ((refl, was shows o size s r id w m.0 there mine e may tt), refl) z q role word),
+            ((refl, was shows o size s r id w m.0 there mine e may tt), refl) z q role
+            (let both = now ∙ sym (now_is shows o size slots id m w mine s r there held Write c'
+            saw') in omega arith)),
       )
 
   pub advances_write : (g d c : ℕ) (t : SyncTurn) → m.0.part.sync ≡ Some t
@@ -247,7 +233,7 @@ module _ {K : Type 0} (shows : K → Lasting) (o : Beside) (size : PathSize) (sl
         keeps,
         tt,
         plays shows o size s r id w m.0 there mine e refl may tt tt tt
-            (rows_stay x e may (λ q. q) r.rows) g g None m.0.hands refl refl tt m.1 keeps
+            tt (rows_stay x e may (λ q. q) r.rows) g g None m.0.hands refl refl tt m.1 keeps
             (unseen shows o size slots id m w mine s r there held x.append v' refl refl refl out
             (still _ m.0.part.sync held) refl empty) tt (refl, refl, refl, refl) tt tt,
         each_seat_name shows o size slots id m w mine (λ z. Made z (Advance z Write g) g m

@@ -1,34 +1,8 @@
 -- What a deposited write knows of a table after it looked at its oldest live memtable, at the bound
 -- of the memtable that it tries, and after it raised that one.
-use Rattle.std.proofs.Common.{
-  ◌≡◌,
-  ◌≢◌,
-  ℕ,
-  ◌+◌,
-  ◌^◌,
-  ◌<◌,
-  ◌==◌,
-  nat_le,
-  Bool,
-  true,
-  false,
-  length,
-  get_or,
-  Option,
-  Some,
-  None,
-  is_some,
-  IsTrue,
-  refl,
-  sym,
-  ap,
-  ◌∙◌,
-  subst,
-  arith,
-  eq-eqb,
-  get_or-set_same,
-  get_or-set_other,
-}
+use Rattle.std.proofs.Common.{◌≡◌, ◌≢◌, ℕ, ◌+◌, ◌^◌, ◌<◌, ◌==◌, nat_le, Bool, true, false, length}
+use Rattle.std.proofs.Common.{get_or, Option, Some, None, is_some, IsTrue, refl, sym, ap, ◌∙◌}
+use Rattle.std.proofs.Common.{subst, arith, eq-eqb, get_or-set_same, get_or-set_other}
 use Rattle.std.specs.Option.{option_map}
 use Rattle.std.specs.Prelude.{◌&&◌, if◌then◌else◌}
 use Rattle.std.proofs.lemmas.Bool.{false≢true}
@@ -55,25 +29,16 @@ use Rattle.path_core.specs.Allowed.{RaisesAsWriter}
 use Rattle.path_core.specs.LawfulSeats.{BoundStays}
 use Rattle.path_core.specs.Parts.{is_at, is_final, memtable_of, seat_table, untouched}
 use Rattle.path_core.specs.SeatAfter.{raised_as_holder, raised_as_writer}
-use Rattle.path_core.specs.SeatParts.{
-  begins_at,
-  bound_found,
-  deposited_end,
-  has_note_of,
-  is_final_below,
-  is_raising,
-  raised_to,
-  takes,
-  tried,
-  tries_bound,
-}
+use Rattle.path_core.specs.SeatParts.{begins_at, bound_found, deposited_end, has_note_of}
+use Rattle.path_core.specs.SeatParts.{is_final_below, is_raising, raised_to, takes, tried}
+use Rattle.path_core.specs.SeatParts.{tries_bound}
 use Rattle.path_core.specs.Words.{reading}
 use Rattle.path_rule.specs.declared.view.View.{View}
 use Rattle.path_rule.specs.Accepted.{RaisesBound, TriesBound}
 use Rattle.path_rule.specs.Layout.{bound_in, bound_word, reading_at, word_of}
 use Rattle.path_rule.specs.Rule.{view_after, Was}
 use Rattle.path_rule.proofs.log.OwnWrites.{below_log}
-use Rattle.path_rule.proofs.places.ReadBack.{log_small, read_back}
+use Rattle.path_rule.proofs.places.ReadBack.{log_small, bound_read}
 
 -- the bound of a reading, live where it is none
 abbrev limit_of : Reading → BoundOf
@@ -171,7 +136,7 @@ module _ (v : View) (w : ℕ) where
 
   -- the oldest live memtable has a word
   pub oldest_small : (t : Table) (n : ℕ) (was : Was v w (Look w (CursorWord (OldestLive t))))
-      → word_of (reading was.core (CursorWord (OldestLive t))) ≡ n → n < 256
+      → word_of (reading was.core (CursorWord (OldestLive t))) ≡ n → n < 2 ^ 47
   oldest_small t n was found = let B = (was.lawful.switches.tables t.0).bounds_rise in
       let made = B.made in let low = B.oldest_is_made in
       let rows = was.rows.memtables t.0 in omega arith
@@ -195,7 +160,7 @@ module _ (v : View) (w : ℕ) where
       → word_of (reading was.core (Bound t m)) ≡ n
       → bound_in n ≡ (memtable_of was.core t.0 m).bound
   bound_is t m n e was found = ap limit_of (ap (reading_at (Bound t m)) (sym found)
-      ∙ read_back was.core was.lawful (Bound t m))
+      ∙ bound_read was.core was.lawful t m)
 
   -- and its word is what was found
   pub bound_words : (t : Table) (m n : ℕ) (e : Event) (was : Was v w e)
@@ -214,7 +179,7 @@ module _ (v : View) (w : ℕ) where
   -- behind a memtable that is final below a write that tries it there is a next one, with a word
   pub next_small : (t : Table) (m end : ℕ) (e : Event) (was : Was v w e)
       → deposited_end v.part ≡ Some end → (seat_table v.part t.0).trying ≡ Some m
-      → is_final_below end (memtable_of was.core t.0 m).bound ≡ true → m + 1 < 256
+      → is_final_below end (memtable_of was.core t.0 m).bound ≡ true → m + 1 < 2 ^ 47
   next_small t m end e was ends trying below =
       let T = was.lawful.places.tries w t.0 in
       let is = ap (λ (p : Seat). (seat_table p t.0).trying) (sym was.part) ∙ trying in

@@ -1,92 +1,36 @@
 -- What is so behind the answers of a sync.
-use Rattle.std.proofs.Common.{
-  ◌≡◌,
-  ℕ,
-  ◌<◌,
-  ◌≤◌,
-  suc,
-  List,
-  [],
-  ◌∷◌,
-  ◌++◌,
-  Option,
-  Some,
-  None,
-  is_some,
-  false,
-  Result,
-  Ok,
-  Err,
-  refl,
-  sym,
-  ap,
-  ◌∙◌,
-  subst,
-  ⊎_elim,
-  arith,
-}
+use Rattle.std.proofs.Common.{◌+◌, ◌≡◌, ℕ, ◌<◌, ◌≤◌, List, [], ◌∷◌, ◌++◌, Option, Some, None}
+use Rattle.std.proofs.Common.{is_some, false, Result, Ok, Err, refl, sym, ap, ◌∙◌, subst, ⊎_elim}
+use Rattle.std.proofs.Common.{arith}
 use Rattle.std.proofs.lemmas.Bool.{false≢true}
 use Rattle.std.proofs.lemmas.List.{append-nil}
 use mathlib.Core.Logic.{inl, inr}
-use Rattle.op_core.specs.declared.count.Order.TheVariants.{Append}
 use Rattle.path_core.specs.declared.event.Carried.TheVariants.{Nothing, Deposit, Applied}
 use Rattle.path_core.specs.declared.event.Cursor.TheVariants.{Synced, Stopped as StoppedCursor}
 use Rattle.path_core.specs.declared.event.Event.{Event}
-use Rattle.path_core.specs.declared.event.Event.TheVariants.{
-  Look,
-  Register,
-  Close,
-  OpenGroup,
-  MoveCurrent,
-  Expire,
-  Advance,
-  Claim,
-  Switch,
-  Raise,
-  Finalise,
-  TakeTurn,
-  GiveTurn,
-  Put,
-}
+use Rattle.path_core.specs.declared.event.Event.TheVariants.{Look, Register, Close, OpenGroup}
+use Rattle.path_core.specs.declared.event.Event.TheVariants.{MoveCurrent, Expire, Advance, Claim}
+use Rattle.path_core.specs.declared.event.Event.TheVariants.{Switch, Raise, Finalise, TakeTurn}
+use Rattle.path_core.specs.declared.event.Event.TheVariants.{GiveTurn, Put}
 use Rattle.path_core.specs.declared.event.Place.{Place}
-use Rattle.path_core.specs.declared.event.Place.TheVariants.{Current, CursorWord, Log}
+use Rattle.path_core.specs.declared.event.Place.TheVariants.{CursorWord}
 use Rattle.path_core.specs.declared.keeper.KeeperFault.{KeeperFault}
+use Rattle.path_core.specs.declared.keeper.KeeperFault.TheVariants.{Stopped as KeeperStopped}
 use Rattle.path_core.specs.declared.keeper.KeeperFault.TheVariants.{
-  Stopped as KeeperStopped,
   OutOfMemory as KeeperOutOfMemory,
 }
 use Rattle.path_core.specs.declared.seat.Found.{Found}
-use Rattle.path_core.specs.declared.seat.LastMarker.{LastMarker}
-use Rattle.path_core.specs.Holders.{behind_last}
 use Rattle.path_core.specs.Keeper.{HasRisen}
-use Rattle.path_core.specs.Parts.{found_of}
 use Rattle.path_rule.specs.declared.answer.SyncAnswer.{SyncAnswer}
-use Rattle.path_rule.specs.declared.answer.SyncAnswer.TheVariants.{
-  Done,
-  Stopped,
-  OutOfMemory,
-  Rows,
-}
+use Rattle.path_rule.specs.declared.answer.SyncAnswer.TheVariants.{Done, Stopped, OutOfMemory}
 use Rattle.path_rule.specs.declared.view.OwnStep.{OwnStep}
-use Rattle.path_rule.specs.declared.view.PathSize.{PathSize}
 use Rattle.path_rule.specs.declared.view.View.{View}
 use Rattle.path_rule.specs.Calls.{Did}
 use Rattle.path_rule.specs.Finds.{Finds}
-use Rattle.path_rule.specs.Layout.{group_rows}
 use Rattle.path_rule.specs.Rounds.{RoundSteps, EndsBelow, WroteBelow, IsAtRest}
-use Rattle.path_rule.specs.SyncAnswers.{
-  FoundNow,
-  WantsMarker,
-  HasNoGroup,
-  IsAnswer,
-  Answers,
-  MayAnswer,
-  IsFullBy,
-  IsHaltedBy,
-  said_by,
-}
+use Rattle.path_rule.specs.SyncAnswers.{FoundNow, IsAnswer, Answers, MayAnswer, IsHaltedBy, said_by}
 use Rattle.path_rule.specs.SyncEnd.{HasSynced, EndsSync, TellsFaults}
-use Rattle.path_rule.proofs.seats.RoundsGo.{one, one_as, both, renamed, still_wrote}
+use Rattle.path_rule.proofs.seats.RoundsGo.{at_most, one, one_as, both, renamed, still_wrote}
 
 -- ---- what ends below a key ends below a later one
 
@@ -130,13 +74,11 @@ pub now_by : (a : SyncAnswer) (ts us : List OwnStep)
 now_by (Done s) ts us more F = more (CursorWord Synced) s F
 now_by (Stopped at_open now) ts us more F = more (CursorWord StoppedCursor) now F
 now_by OutOfMemory ts us more F = tt
-now_by (Rows n) ts us more F =
-    (F.0, F.1, more (Current Append) F.0 F.2, more (CursorWord StoppedCursor) 0 F.3)
 
 -- ---- steps before an answer, and behind it
 
-abbrev pub answers_after : (w opened : ℕ) (a : SyncAnswer) (v u after : View) → RoundSteps w [] v u
-    → Answers w opened u a after → Answers w opened v a after
+abbrev pub answers_after : {m k : ℕ} (w opened : ℕ) (a : SyncAnswer) (v u after : View)
+    → RoundSteps w m [] v u → Answers w k opened u a after → Answers w (k + m) opened v a after
 answers_after w opened a v u after S A = record {
   puts = A.puts;
   steps = renamed w (A.puts ++ []) A.puts v after (append-nil A.puts)
@@ -146,46 +88,25 @@ answers_after w opened a v u after S A = record {
       (λ at n F. found_after at n A.steps.steps S.steps F) A.now;
 }
 
-wants_still : (u after : View) → after.part.found ≡ u.part.found → after.size ≡ u.size
-    → after.hands.progress.marker ≡ u.hands.progress.marker → WantsMarker u → WantsMarker after
-wants_still u after same size marker W = record {
-  key = W.key;
-  found = ap (λ (f : Found). f.log) same ∙ W.found;
-  since = subst (λ (q : PathSize × Option LastMarker). behind_last q.0.capacity q.1 < W.key)
-      (λ i. (sym size i, sym marker i)) W.since;
-}
-
 is_still : (w opened : ℕ) (a : SyncAnswer) (ps : List Event) (u after : View)
-    → RoundSteps w [] u after → after.part.found ≡ u.part.found
-    → after.hands.progress.marker ≡ u.hands.progress.marker → IsAnswer w opened a ps u
+    → RoundSteps w 0 [] u after → after.part.found ≡ u.part.found → IsAnswer w opened a ps u
     → IsAnswer w opened a ps after
-is_still w opened (Done s) ps u after S same marker I = (
+is_still w opened (Done s) ps u after S same I = (
   ap (λ (f : Found). f.synced) same ∙ I.0,
   still_wrote w s [] u after S I.1,
   I.2,
 )
-is_still w opened (Stopped at_open now) ps u after S same marker I =
+is_still w opened (Stopped at_open now) ps u after S same I =
     (I.0, I.1, ap (λ (f : Found). f.stopped) same ∙ I.2, I.3)
-is_still w opened OutOfMemory ps u after S same marker I = I
-is_still w opened (Rows n) ps u after S same marker I = (
-  record {
-    last = I.0.last;
-    found = ap (λ (f : Found). f.append.current) same ∙ I.0.found;
-    next = I.0.next;
-    all = I.0.all;
-    wanted = wants_still u after same S.size marker I.0.wanted;
-    running = ap (λ (f : Found). f.stopped) same ∙ I.0.running;
-  },
-  I.1,
-)
+is_still w opened OutOfMemory ps u after S same I = I
 
-pub answers_still : (w opened : ℕ) (a : SyncAnswer) (v u after : View) → Answers w opened v a u
-    → RoundSteps w [] u after → after.part.found ≡ u.part.found
-    → after.hands.progress.marker ≡ u.hands.progress.marker → Answers w opened v a after
-answers_still w opened a v u after A S same marker = record {
+pub answers_still : {n : ℕ} (w opened : ℕ) (a : SyncAnswer) (v u after : View)
+    → Answers w n opened v a u
+    → RoundSteps w 0 [] u after → after.part.found ≡ u.part.found → Answers w n opened v a after
+answers_still w opened a v u after A S same = record {
   puts = A.puts;
-  steps = both w A.puts [] v u after A.steps S;
-  is = is_still w opened a A.puts u after S same marker A.is;
+  steps = at_most w A.puts v after (omega arith) (both w A.puts [] v u after A.steps S);
+  is = is_still w opened a A.puts u after S same A.is;
   now = now_by a A.steps.steps (S.steps ++ A.steps.steps)
       (λ at n F. found_before at n S.steps A.steps.steps F) A.now;
 }
@@ -193,7 +114,7 @@ answers_still w opened a v u after A S same marker = record {
 -- ---- answers of a keeper
 
 done_answers : (w opened upto s : ℕ) (v after : View) → WroteBelow upto v.trail
-    → EndsSync w upto v (Ok s) after → Answers w opened v (Done s) after
+    → EndsSync w upto v (Ok s) after → Answers w 0 opened v (Done s) after
 done_answers w opened upto s v after B E =
     let first = one w (Look w (CursorWord Synced)) E.found v E.seen refl E.looked in
     ⊎_elim (λ (old : (upto ≤ E.found) × (s ≡ E.found) × (after ≡ E.seen)).
@@ -228,7 +149,7 @@ done_answers w opened upto s v after B E =
 
 stopped_answers : (w opened upto at_open now : ℕ) (v after : View) → at_open ≡ opened
     → HasRisen at_open now → EndsSync w upto v (Err (KeeperStopped at_open now)) after
-    → Answers w opened v (Stopped at_open now) after
+    → Answers w 0 opened v (Stopped at_open now) after
 stopped_answers w opened upto at_open now v after at risen E = record {
   puts = Put w StoppedCursor now ∷ [];
   steps = both w [] (Put w StoppedCursor now ∷ []) v E.seen after
@@ -239,7 +160,7 @@ stopped_answers w opened upto at_open now v after at risen E = record {
 }
 
 refused_answers : (w opened upto : ℕ) (v after : View)
-    → EndsSync w upto v (Err KeeperOutOfMemory) after → Answers w opened v OutOfMemory after
+    → EndsSync w upto v (Err KeeperOutOfMemory) after → Answers w 0 opened v OutOfMemory after
 refused_answers w opened upto v after E = record {
   puts = [];
   steps = both w [] [] v E.seen after
@@ -252,7 +173,7 @@ refused_answers w opened upto v after E = record {
 
 pub ends_answers : (w opened upto : ℕ) (v after : View) (r : Result ℕ KeeperFault)
     → TellsFaults opened r → WroteBelow upto v.trail → EndsSync w upto v r after
-    → Answers w opened v (said_by r) after
+    → Answers w 0 opened v (said_by r) after
 ends_answers w opened upto v after (Ok s) T B E = done_answers w opened upto s v after B E
 ends_answers w opened upto v after (Err (KeeperStopped at_open now)) T B E =
     stopped_answers w opened upto at_open now v after T.0 T.1 E
@@ -262,7 +183,7 @@ ends_answers w opened upto v after (Err KeeperOutOfMemory) T B E =
 -- the log was found stopped
 pub halted_answers : (w opened now : ℕ) (v after : View) → HasRisen opened now
     → Did v w (Look w (CursorWord StoppedCursor)) now after
-    → Answers w opened v (Stopped opened now) after
+    → Answers w 0 opened v (Stopped opened now) after
 halted_answers w opened now v after risen D = record {
   puts = [];
   steps = one w (Look w (CursorWord StoppedCursor)) now v after refl D;
@@ -272,7 +193,7 @@ halted_answers w opened now v after risen D = record {
 
 -- the synced key was found, at or above one below which all that the seat wrote ends
 pub found_answers : (w opened upto s : ℕ) (v after : View) → upto ≤ s → WroteBelow upto v.trail
-    → Did v w (Look w (CursorWord Synced)) s after → Answers w opened v (Done s) after
+    → Did v w (Look w (CursorWord Synced)) s after → Answers w 0 opened v (Done s) after
 found_answers w opened upto s v after up B D =
     let steps = one w (Look w (CursorWord Synced)) s v after refl D in record {
       puts = [];
@@ -288,11 +209,11 @@ found_answers w opened upto s v after up B D =
 -- the count with which the log is stopped was found
 pub halted_may : (w opened now : ℕ) (a : Option SyncAnswer) (v after : View)
     → Did v w (Look w (CursorWord StoppedCursor)) now after → IsHaltedBy opened now a
-    → MayAnswer w opened v a after
+    → MayAnswer w 0 opened v a after
 halted_may w opened now None v after D is =
     one w (Look w (CursorWord StoppedCursor)) now v after refl D
 halted_may w opened now (Some a) v after D is =
-    subst (λ (x : SyncAnswer). Answers w opened v x after) (sym is.0)
+    subst (λ (x : SyncAnswer). Answers w 0 opened v x after) (sym is.0)
     (halted_answers w opened now v after is.1 D)
 
 -- where that is no answer the log runs
@@ -301,71 +222,42 @@ pub runs_on : (opened now : ℕ) (a : Option SyncAnswer) → IsHaltedBy opened n
 runs_on opened now None is none = is
 runs_on opened now (Some a) is none = absurd (false≢true (sym none))
 
--- The log was found running, then the last group that there is a word for current, and then an
--- entry to be claimed since the last marker, or none.
-module _ (w opened group key : ℕ) (v s u after : View) (last : suc group ≡ group_rows)
-    (C : Did v w (Look w (CursorWord StoppedCursor)) 0 s) (D : Did s w (Look w (Current Append))
-    group u) (E : Did u w (Look w Log) key after) where
-  abbrev looked_full : RoundSteps w [] v after
-  looked_full = both w [] [] v u after (both w [] [] v s u
-      (one w (Look w (CursorWord StoppedCursor)) 0 v s refl C)
-      (one w (Look w (Current Append)) group s u refl D)) (one w (Look w Log) key u after refl E)
+pub may_after : (n w opened : ℕ) (a : Option SyncAnswer) (v u after : View) → RoundSteps w 0 [] v u
+    → MayAnswer w n opened u a after → MayAnswer w n opened v a after
+may_after n w opened (Some a) v u after S A = let B = answers_after w opened a v u after S A
+    in record {
+      puts = B.puts;
+      steps = at_most w B.puts v after (omega arith) B.steps;
+      is = B.is;
+      now = B.now;
+    }
+may_after n w opened None v u after S A = both w [] [] v u after S A
 
-  no_group : behind_last v.size.capacity v.hands.progress.marker < key → HasNoGroup group_rows after
-  no_group since = record {
-    last = group;
-    found = ap (λ (x : View). (found_of Append x.part).current) E.view
-        ∙ ap (λ (x : View). (found_of Append x.part).current) D.view;
-    next = last;
-    all = refl;
-    wanted = record {
-      key = key;
-      found = ap (λ (x : View). x.part.found.log) E.view;
-      since = subst (λ (q : ℕ × Option LastMarker). behind_last q.0 q.1 < key) (λ i. (
-        sym (ap (λ (x : View). x.size.capacity) E.view
-            ∙ (ap (λ (x : View). x.size.capacity) D.view
-            ∙ ap (λ (x : View). x.size.capacity) C.view)) i,
-        sym (ap (λ (x : View). x.hands.progress.marker) E.view
-            ∙ (ap (λ (x : View). x.hands.progress.marker) D.view
-            ∙ ap (λ (x : View). x.hands.progress.marker) C.view)) i,
-      )) since;
-    };
-    running = ap (λ (x : View). x.part.found.stopped) E.view
-        ∙ (ap (λ (x : View). x.part.found.stopped) D.view
-        ∙ ap (λ (x : View). x.part.found.stopped) C.view);
-  }
-
-  pub full_answers : (a : Option SyncAnswer)
-      → IsFullBy v.size.capacity v.hands.progress.marker key a → MayAnswer w opened v a after
-  full_answers None F = looked_full
-  full_answers (Some a) F = subst (λ (x : SyncAnswer). Answers w opened v x after) (sym F.0)
-      (record {
-        puts = [];
-        steps = looked_full;
-        is = (no_group F.1, refl);
-        now = (group, last, inr (inl (refl, refl)), inr (inr (inl (refl, refl))));
-      })
-
-pub may_after : (w opened : ℕ) (a : Option SyncAnswer) (v u after : View) → RoundSteps w [] v u
-    → MayAnswer w opened u a after → MayAnswer w opened v a after
-may_after w opened (Some a) v u after S A = answers_after w opened a v u after S A
-may_after w opened None v u after S A = both w [] [] v u after S A
-
-pub may_still : (w opened : ℕ) (a : Option SyncAnswer) (v u after : View)
-    → MayAnswer w opened v a u → RoundSteps w [] u after → after.part.found ≡ u.part.found
-    → after.hands.progress.marker ≡ u.hands.progress.marker → MayAnswer w opened v a after
-may_still w opened (Some a) v u after A S same marker =
-    answers_still w opened a v u after A S same marker
-may_still w opened None v u after A S same marker = both w [] [] v u after A S
+pub may_still : (n w opened : ℕ) (a : Option SyncAnswer) (v u after : View)
+    → MayAnswer w n opened v a u → RoundSteps w 0 [] u after → after.part.found ≡ u.part.found
+    → MayAnswer w n opened v a after
+may_still n w opened (Some a) v u after A S same = answers_still w opened a v u after A S same
+may_still n w opened None v u after A S same = both w [] [] v u after A S
 
 -- a seat at rest is so behind an answer
-pub may_rest : (w opened : ℕ) (a : Option SyncAnswer) (v after : View)
-    → MayAnswer w opened v a after → IsAtRest v.part → IsAtRest after.part
-may_rest w opened (Some a) v after A R = A.steps.rests R
-may_rest w opened None v after A R = A.rests R
+pub may_rest : (n w opened : ℕ) (a : Option SyncAnswer) (v after : View)
+    → MayAnswer w n opened v a after → IsAtRest v.part → IsAtRest after.part
+may_rest n w opened (Some a) v after A R = A.steps.rests R
+may_rest n w opened None v after A R = A.rests R
 
 -- and what it tells stays of one size
-pub may_size : (w opened : ℕ) (a : Option SyncAnswer) (v after : View)
-    → MayAnswer w opened v a after → after.size ≡ v.size
-may_size w opened (Some a) v after A = A.steps.size
-may_size w opened None v after A = A.size
+pub may_size : (n w opened : ℕ) (a : Option SyncAnswer) (v after : View)
+    → MayAnswer w n opened v a after → after.size ≡ v.size
+may_size n w opened (Some a) v after A = A.steps.size
+may_size n w opened None v after A = A.size
+
+-- an answer with which more barriers may have been issued
+pub may_more : (n k w opened : ℕ) (a : Option SyncAnswer) (v after : View) → n ≤ k
+    → MayAnswer w n opened v a after → MayAnswer w k opened v a after
+may_more n k w opened (Some a) v after up A = record {
+  puts = A.puts;
+  steps = at_most w A.puts v after up A.steps;
+  is = A.is;
+  now = A.now;
+}
+may_more n k w opened None v after up A = A

@@ -1,29 +1,7 @@
 -- A new table keeps the rule.
-use Rattle.std.proofs.Common.{
-  ◌≡◌,
-  ℕ,
-  zero,
-  suc,
-  ◌<◌,
-  ◌≤◌,
-  List,
-  [],
-  ◌∷◌,
-  ◌++◌,
-  length,
-  map,
-  is_some,
-  replicate,
-  set,
-  refl,
-  sym,
-  ap,
-  ◌∙◌,
-  subst,
-  ⊎_elim,
-  arith,
-  length-set,
-}
+use Rattle.std.proofs.Common.{◌^◌, ◌≡◌, ℕ, zero, suc, ◌<◌, ◌≤◌, List, [], ◌∷◌, ◌++◌, length, map}
+use Rattle.std.proofs.Common.{is_some, replicate, set, refl, sym, ap, ◌∙◌, subst, ⊎_elim, arith}
+use Rattle.std.proofs.Common.{length-set}
 use Rattle.std.proofs.lemmas.List.{length-replicate, length-map}
 use Rattle.std.specs.List.{Contains}
 use mathlib.Core.Logic.{inl}
@@ -48,20 +26,14 @@ use Rattle.path_rule.specs.declared.view.View.{View}
 use Rattle.path_rule.specs.Boxed.{HandsAs, AreFirst}
 use Rattle.path_rule.specs.Boxes.{all_boxes, first_progress, DeskIs, NotesAre}
 use Rattle.path_rule.specs.FirstBoxes.{AreEmpty}
-use Rattle.path_rule.specs.Lasts.{
-  beside_of,
-  lasting_of,
-  none_filed,
-  none_lasting,
-  put_table,
-  stopped_with,
-  IsNew,
-}
+use Rattle.path_rule.specs.Lasts.{beside_of, lasting_of, none_filed, none_lasting, put_table}
+use Rattle.path_rule.specs.Lasts.{stopped_with, IsNew}
 use Rattle.path_rule.specs.Layout.{first_words}
 use Rattle.path_rule.specs.Memtables.{PutNotes, PutsAs}
 use Rattle.path_rule.specs.Reads.{ReadsAs}
 use Rattle.path_rule.specs.Rule.{start_of, IsFit, Knows, IsSized, Ruled, opener}
 use Rattle.path_rule.specs.Trails.{ViewTells}
+use Rattle.path_rule.proofs.log.Issues.{memtables_first}
 use Rattle.path_rule.proofs.log.TrailsTell.{none_tells}
 use Rattle.path_rule.proofs.seats.Dealing.{at_end}
 use Rattle.path_rule.proofs.seats.FirstWords.{same_all, first_word}
@@ -84,13 +56,17 @@ module _ {K : Type 0} (shows : K → Lasting) (o : Beside) where
     run = refl;
     built = tt;
     fit = fit;
-    wide = length-set {A = ℕ} (replicate 135240 0) 4 28 ∙ length-replicate {A = ℕ} 135240 0;
+    wide = length-set {A = ℕ} (replicate 200 0) 4 28 ∙ length-replicate {A = ℕ} 200 0;
     rows = record {
       groups = λ o. few o;
       memtables = λ t. subst
-          (λ (x : TableState). length x.memtables ≤ 256) (sym (same_all size.tables t fresh_table))
+          (λ (x : TableState). length x.memtables ≤ 2 ^ 47)
+          (sym (same_all size.tables t fresh_table))
           (omega arith);
+      all = (let first = memtables_first size 16 in omega (arith, first));
     };
+    few = λ w. omega arith;
+    paid = λ w. omega arith;
     long = length-replicate size.seats fresh_seat;
     enough = omega arith;
     deep = length-map xs some ∙ long;
@@ -142,13 +118,13 @@ module _ {K : Type 0} (shows : K → Lasting) (o : Beside) where
       noted = λ j u e. first_noted j u e;
     };
     reads = λ j u e. first_reads j u e;
-    words = first_word size;
+    words = first_word size fit;
     fresh = λ w _. (refl, same_all size.seats w fresh_seat);
     each_seat = λ j u e. first_view j u e;
     tells = λ j u e. first_tells j u e;
   }
     where
-      few : (o : Order) → length (groups_of (start_of size) o).tallies ≤ 65536
+      few : (o : Order) → length (groups_of (start_of size) o).tallies ≤ 2 ^ 47
       few Write = omega arith
       few Append = omega arith
 

@@ -3,12 +3,8 @@ use Rattle.std.proofs.Common.{◌≡◌, ℕ, None, is_some, IsTrue, refl, ap}
 use Rattle.std.specs.Option.{option_map}
 use Rattle.op_core.specs.declared.count.Order.{Order}
 use Rattle.op_core.specs.declared.count.Order.TheVariants.{Write, Append}
-use Rattle.path_core.specs.declared.event.Event.TheVariants.{
-  OpenGroup,
-  MoveCurrent,
-  Expire,
-  Advance,
-}
+use Rattle.path_core.specs.declared.event.Event.TheVariants.{OpenGroup, MoveCurrent, Expire}
+use Rattle.path_core.specs.declared.event.Event.TheVariants.{Advance}
 use Rattle.path_core.specs.declared.seat.Issue.{Issue}
 use Rattle.path_core.specs.declared.seat.Issue.TheVariants.{Rest, Opened, Moved}
 use Rattle.path_core.specs.Parts.{marker_of}
@@ -16,7 +12,7 @@ use Rattle.path_rule.specs.declared.view.Hands.{Hands}
 use Rattle.path_rule.specs.declared.view.View.{View}
 use Rattle.path_rule.specs.Calls.{Holds}
 use Rattle.path_rule.specs.Rule.{view_after, with_hands}
-use Rattle.path_rule.specs.Turns.{TurnSaw}
+use Rattle.path_rule.specs.Turns.{FoundRunning, TurnSaw}
 use Rattle.path_rule.proofs.seats.HolderKnows.{the_turn, marker_stays, changes, saw_after}
 
 module _ (v : View) (w n : ℕ) where
@@ -79,6 +75,16 @@ module _ (v : View) (w n : ℕ) where
   advanced_saw Append g c s = saw_after _ Append v.part
       (view_after v (Advance w Append g) n).part c
       (λ t. refl) refl s
+
+  pub advanced_marker : (o : Order) (g : ℕ)
+      → marker_of (view_after v (Advance w o g) n).part ≡ marker_of v.part
+  advanced_marker Write g = marker_stays _ v.part.sync (λ t. refl)
+  advanced_marker Append g = marker_stays _ v.part.sync (λ t. refl)
+
+  pub advanced_runs : (o : Order) (g : ℕ) → FoundRunning v.part
+      → FoundRunning (view_after v (Advance w o g) n).part
+  advanced_runs Write g r = (_, ap (option_map _) r.1, r.2)
+  advanced_runs Append g r = (_, ap (option_map _) r.1, r.2)
 
   pub opened_marker : (o : Order) (g : ℕ)
       → marker_of (view_after v (OpenGroup w o g) n).part ≡ marker_of v.part

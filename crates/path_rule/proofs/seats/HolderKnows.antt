@@ -1,5 +1,6 @@
 -- What a change of its turn leaves of what the holder of the Sync turn knows.
-use Rattle.std.proofs.Common.{◌≡◌, ℕ, ◌^◌, true, Option, Some, None, is_some, IsTrue, refl, ap, ◌∙◌}
+use Rattle.std.proofs.Common.{◌<◌, ◌+◌, ◌*◌, arith, ◌≡◌, ℕ, ◌^◌, true, Option, Some, None, is_some}
+use Rattle.std.proofs.Common.{IsTrue, refl, ap, ◌∙◌}
 use Rattle.std.proofs.lemmas.Bool.{false≢true}
 use Rattle.std.specs.Option.{option_and_then, option_map, option_map_or}
 use Rattle.op_core.specs.Tallies.{is_finished}
@@ -10,7 +11,9 @@ use Rattle.path_core.specs.declared.seat.Seat.{Seat}
 use Rattle.path_core.specs.declared.seat.SyncTurn.{SyncTurn}
 use Rattle.path_rule.specs.declared.view.View.{View}
 use Rattle.path_rule.specs.Calls.{Holds}
-use Rattle.path_rule.specs.Layout.{tally_in}
+use Rattle.op_core.proofs.CountWords.{tally_back}
+use Rattle.op_core.specs.CountWords.{count_word, tally_in}
+use Rattle.op_core.specs.declared.count.Tally.TheVariants.{Expired}
 use Rattle.path_rule.specs.Turns.{FoundRunning, TurnSaw, TurnOld, turn_groups}
 
 pub the_turn : (p : Seat) → IsTrue (is_some p.sync) → (t : SyncTurn) × (p.sync ≡ Some t)
@@ -60,8 +63,10 @@ changes f i j g v v' sync hands H = record {
 }
 
 -- the word of a finished count
-pub is_gone : (n : ℕ) → n ≡ 2 ^ 63 → is_finished (tally_in n) ≡ true
-is_gone n e = ap (λ m. is_finished (tally_in m)) e
+pub is_gone : (n g : ℕ) → g < 2 ^ 47 → n ≡ 65536 * g + 2 ^ 63 → is_finished (tally_in n) ≡ true
+is_gone n g low e = let is : n ≡ count_word g (Expired 0) = omega arith in
+    ap (λ m. is_finished (tally_in m)) is
+    ∙ ap is_finished (tally_back g (Expired 0) low (omega arith))
 
 pub saw_after : (f : SyncTurn → SyncTurn) (o : Order) (p q : Seat) (c : ℕ)
     → ((t : SyncTurn) → (turn_groups o (f t)).current ≡ (turn_groups o t).current)

@@ -1,19 +1,6 @@
 -- What the holder of the Sync turn knows after it looked at the groups of an order.
-use Rattle.std.proofs.Common.{
-  ◌≡◌,
-  ℕ,
-  ◌^◌,
-  Bool,
-  true,
-  false,
-  is_some,
-  Some,
-  IsTrue,
-  refl,
-  sym,
-  ap,
-  subst,
-}
+use Rattle.std.proofs.Common.{◌<◌, ◌*◌, ◌+◌, ◌≡◌, ℕ, ◌^◌, Bool, true, false, is_some, Some, IsTrue}
+use Rattle.std.proofs.Common.{refl, sym, ap, subst}
 use Rattle.std.specs.Prelude.{if◌then◌else◌}
 use Rattle.std.specs.Option.{option_map}
 use Rattle.op_core.specs.Tallies.{is_finished}
@@ -26,17 +13,11 @@ use Rattle.path_core.specs.Parts.{found_of, marker_of}
 use Rattle.path_core.specs.SeatParts.{keeps, finished_found}
 use Rattle.path_rule.specs.declared.view.View.{View}
 use Rattle.path_rule.specs.Calls.{Holds}
-use Rattle.path_rule.specs.Layout.{tally_in}
+use Rattle.op_core.specs.CountWords.{tally_in}
 use Rattle.path_rule.specs.Rule.{view_after}
 use Rattle.path_rule.specs.Turns.{FoundRunning, TurnSaw, TurnOld, TurnGone}
-use Rattle.path_rule.proofs.seats.HolderKnows.{
-  the_turn,
-  marker_stays,
-  changes,
-  is_gone,
-  saw_after,
-  old_after,
-}
+use Rattle.path_rule.proofs.seats.HolderKnows.{the_turn, marker_stays, changes, is_gone, saw_after}
+use Rattle.path_rule.proofs.seats.HolderKnows.{old_after}
 
 module _ (v : View) (w n : ℕ) where
   pub current_held : (o : Order) (i : Issue) → Holds i v
@@ -139,14 +120,50 @@ module _ (v : View) (w n : ℕ) where
           (λ t. refl) refl s
       by false = s
 
-  pub count_gone : (o : Order) (g : ℕ) → n ≡ 2 ^ 63 → IsTrue (is_some v.part.sync)
+  pub count_gone : (o : Order) (g : ℕ) → g < 2 ^ 47 → n ≡ 65536 * g + 2 ^ 63
+      → IsTrue (is_some v.part.sync)
       → TurnGone o (view_after v (Look w (Count o g)) n).part g
-  count_gone Write g e h = subst (λ b. TurnGone Write
-      (if b then keeps Write (finished_found g) v.part else v.part) g) (sym (is_gone n e))
+  count_gone Write g low e h = subst (λ b. TurnGone Write
+      (if b then keeps Write (finished_found g) v.part else v.part) g) (sym (is_gone n g low e))
       (let t = the_turn v.part h in (_, ap (option_map _) t.1, refl))
-  count_gone Append g e h = subst (λ b. TurnGone Append
-      (if b then keeps Append (finished_found g) v.part else v.part) g) (sym (is_gone n e))
+  count_gone Append g low e h = subst (λ b. TurnGone Append
+      (if b then keeps Append (finished_found g) v.part else v.part) g) (sym (is_gone n g low e))
       (let t = the_turn v.part h in (_, ap (option_map _) t.1, refl))
+
+  pub oldest_marker : (o : Order)
+      → marker_of (view_after v (Look w (Oldest o)) n).part ≡ marker_of v.part
+  oldest_marker Write = marker_stays _ v.part.sync (λ t. refl)
+  oldest_marker Append = marker_stays _ v.part.sync (λ t. refl)
+
+  pub oldest_runs : (o : Order) → FoundRunning v.part
+      → FoundRunning (view_after v (Look w (Oldest o)) n).part
+  oldest_runs Write r = (_, ap (option_map _) r.1, r.2)
+  oldest_runs Append r = (_, ap (option_map _) r.1, r.2)
+
+  pub count_marker : (o : Order) (g : ℕ)
+      → marker_of (view_after v (Look w (Count o g)) n).part ≡ marker_of v.part
+  count_marker o g = by (is_finished (tally_in n))
+    where
+      gone : (o : Order) → marker_of (keeps o (finished_found g) v.part) ≡ marker_of v.part
+      gone Write = marker_stays _ v.part.sync (λ t. refl)
+      gone Append = marker_stays _ v.part.sync (λ t. refl)
+
+      by : (b : Bool) → marker_of (if b then keeps o (finished_found g) v.part else v.part)
+          ≡ marker_of v.part
+      by true = gone o
+      by false = refl
+
+  pub count_runs : (o : Order) (g : ℕ) → FoundRunning v.part
+      → FoundRunning (view_after v (Look w (Count o g)) n).part
+  count_runs o g r = by (is_finished (tally_in n))
+    where
+      gone : (o : Order) → FoundRunning (keeps o (finished_found g) v.part)
+      gone Write = (_, ap (option_map _) r.1, r.2)
+      gone Append = (_, ap (option_map _) r.1, r.2)
+
+      by : (b : Bool) → FoundRunning (if b then keeps o (finished_found g) v.part else v.part)
+      by true = gone o
+      by false = r
 
   pub current_marker : (o : Order)
       → marker_of (view_after v (Look w (Current o)) n).part ≡ marker_of v.part

@@ -1,25 +1,7 @@
 -- What the holder of a table's turn found of its newest memtable, and of the least that is not
 -- retired, behind the steps of a switch, and behind those that wait for a barrier.
-use Rattle.std.proofs.Common.{
-  ◌≡◌,
-  ℕ,
-  ◌<◌,
-  Bool,
-  true,
-  false,
-  ◌&&◌,
-  if◌then◌else◌,
-  List,
-  get_or,
-  Option,
-  Some,
-  None,
-  is_some,
-  refl,
-  ap,
-  ◌∙◌,
-  get_or-set_same,
-}
+use Rattle.std.proofs.Common.{◌≡◌, ℕ, ◌<◌, Bool, true, false, ◌&&◌, if◌then◌else◌, List, get_or}
+use Rattle.std.proofs.Common.{Option, Some, None, is_some, refl, ap, ◌∙◌, get_or-set_same}
 use Rattle.std.proofs.Math.ListN.{get_or-map as get_or-map_default}
 use Rattle.std.proofs.lemmas.Option.{none-some, same_Some}
 use Rattle.std.specs.Option.{option_map}
@@ -28,48 +10,30 @@ use Rattle.clog_base.specs.declared.position.Key.{Key}
 use Rattle.op_core.specs.declared.count.Order.{Order}
 use Rattle.op_core.specs.declared.count.Order.TheVariants.{Append, Write}
 use Rattle.op_core.specs.Tallies.{is_finished}
-use Rattle.path_core.specs.declared.event.Event.TheVariants.{
-  Advance,
-  Finalise,
-  Look,
-  Raise,
-  Switch,
-}
+use Rattle.path_core.specs.declared.event.Event.TheVariants.{Advance, Finalise, Look, Raise, Switch}
 use Rattle.path_core.specs.declared.event.Place.TheVariants.{Count, Current, Log, Oldest}
-use Rattle.path_core.specs.declared.event.SwitchPart.TheVariants.{Open as OpenPart, Mark}
+use Rattle.path_core.specs.declared.event.SwitchPart.TheVariants.{Clear, Open as OpenPart, Mark}
 use Rattle.path_core.specs.declared.seat.FlushTurn.{FlushTurn}
 use Rattle.path_core.specs.declared.seat.FoundGroups.{FoundGroups}
 use Rattle.path_core.specs.declared.seat.Seat.{Seat}
 use Rattle.path_core.specs.declared.seat.SeatTable.{SeatTable}
 use Rattle.path_core.specs.declared.seat.Switching.{Switching}
-use Rattle.path_core.specs.declared.seat.Switching.TheVariants.{
-  Begun,
-  Marked as MarkedStage,
-  Waiting,
-}
+use Rattle.path_core.specs.declared.seat.Switching.TheVariants.{Begun, Marked as MarkedStage}
+use Rattle.path_core.specs.declared.seat.Switching.TheVariants.{Waiting}
 use Rattle.path_core.specs.declared.state.Bound.{Bound}
 use Rattle.path_core.specs.declared.state.Bound.TheVariants.{Raising}
 use Rattle.path_core.specs.Parts.{is_at, seat_table, untouched}
 use Rattle.path_core.specs.SeatAfter.{raised_as_holder, raised_as_writer, raised_stage}
-use Rattle.path_core.specs.SeatParts.{
-  bound_found,
-  current_found,
-  finished_found,
-  in_flush,
-  is_raising,
-  keeps,
-  log_found,
-  made_final,
-  oldest_found,
-  raised_to,
-  reaches,
-}
+use Rattle.path_core.specs.SeatParts.{bound_found, current_found, finished_found, in_flush}
+use Rattle.path_core.specs.SeatParts.{is_raising, keeps, log_found, made_final, oldest_found}
+use Rattle.path_core.specs.SeatParts.{raised_to, reaches}
 use Rattle.path_core.proofs.seats.Columns.{at_table_keeps}
 use Rattle.path_rule.specs.declared.view.View.{View}
 use Rattle.path_rule.specs.Calls.{Did}
-use Rattle.path_rule.specs.Layout.{bound_in, tally_in}
+use Rattle.op_core.specs.CountWords.{tally_in}
+use Rattle.path_rule.specs.Layout.{bound_in}
 use Rattle.path_rule.specs.Switched.{KeepsMemtables}
-use Rattle.path_rule.specs.Switches.{FlushNewest, FlushOldest}
+use Rattle.path_rule.specs.Switches.{FlushCleared, FlushNewest, FlushOldest}
 use Rattle.path_rule.proofs.seats.Accepting.{table_inside}
 
 -- ---- the steps of a switch
@@ -127,13 +91,24 @@ module _ (v after : View) (w u : ℕ) where
   pub open_keeps : (t : Table) (m n : ℕ) → Did v w (Switch w t m OpenPart) n after
       → (k : ℕ) → FlushOldest u v.part k → FlushOldest u after.part k
   open_keeps t m n d = let set : FlushTurn → FlushTurn =
-      λ turn. record turn { newest = Some m } in
+      λ turn. record turn { newest = Some m; cleared = None } in
       least_of (ap (λ (x : View). least_at (seat_table x.part u)) d.view
       ∙ at_table_keeps t.0 u (λ (st : SeatTable). reaches (Begun m) (in_flush set st)) v.part
       least_at (
       kept _ (λ (turn : FlushTurn). record turn { stage = Begun m }) (λ turn. refl)
       (in_flush set (seat_table v.part t.0)).flush
       ∙ kept _ set (λ turn. refl) (seat_table v.part t.0).flush))
+
+  pub clear_keeps : (t : Table) (m n : ℕ) → Did v w (Switch w t m Clear) n after
+      → KeepsMemtables u v.part after.part
+  clear_keeps t m n d = let set : FlushTurn → FlushTurn =
+      λ turn. record turn { cleared = Some m } in
+      both_of (ap (λ (x : View). least_at (seat_table x.part u)) d.view
+      ∙ at_table_keeps t.0 u (in_flush set) v.part least_at
+      (kept _ set (λ turn. refl) (seat_table v.part t.0).flush))
+      (ap (λ (x : View). newest_at (seat_table x.part u)) d.view
+      ∙ at_table_keeps t.0 u (in_flush set) v.part newest_at
+      (kept _ set (λ turn. refl) (seat_table v.part t.0).flush))
 
   -- a bound is found, and a stage is reached
   reached : (read : FlushTurn → Option ℕ) (k : Switching) (m : ℕ) (b : Bound)
@@ -220,13 +195,27 @@ pub open_newest : (v after : View) (w : ℕ) (t : Table) (m n : ℕ) → t.0 < 1
     → Did v w (Switch w t m OpenPart) n after → (turn : FlushTurn)
     → (seat_table v.part t.0).flush ≡ Some turn → FlushNewest t.0 after.part m
 open_newest v after w t m n few d turn is = (
-  record turn { newest = Some m; stage = Begun m },
+  record turn { newest = Some m; stage = Begun m; cleared = None },
   ap (λ (x : View). (seat_table x.part t.0).flush) d.view
       ∙ (ap (λ (st : SeatTable). st.flush)
       (get_or-set_same v.part.tables t.0 _ untouched (table_inside v w _ d.was t.0 few))
       ∙ ap (λ (o : Option FlushTurn). option_map (λ (turn : FlushTurn).
       record turn { stage = Begun m }) (option_map (λ (turn : FlushTurn).
-      record turn { newest = Some m }) o)) is),
+      record turn { newest = Some m; cleared = None }) o)) is),
+  refl,
+)
+
+-- who has cleared a place knows it
+pub clear_found : (v after : View) (w : ℕ) (t : Table) (m n : ℕ) → t.0 < 16
+    → Did v w (Switch w t m Clear) n after → (turn : FlushTurn)
+    → (seat_table v.part t.0).flush ≡ Some turn → FlushCleared t.0 after.part m
+clear_found v after w t m n few d turn is = (
+  record turn { cleared = Some m },
+  ap (λ (x : View). (seat_table x.part t.0).flush) d.view
+      ∙ (ap (λ (st : SeatTable). st.flush)
+      (get_or-set_same v.part.tables t.0 _ untouched (table_inside v w _ d.was t.0 few))
+      ∙ ap (λ (o : Option FlushTurn). option_map (λ (turn : FlushTurn).
+      record turn { cleared = Some m }) o) is),
   refl,
 )
 

@@ -1,24 +1,6 @@
 -- A seat takes in another: it keeps its own number, and knows what the other knew.
-use Rattle.std.proofs.Common.{
-  ◌≡◌,
-  ◌≢◌,
-  ℕ,
-  Option,
-  Some,
-  None,
-  List,
-  ◌++◌,
-  length,
-  set,
-  is_some,
-  refl,
-  sym,
-  ap,
-  ◌∙◌,
-  subst,
-  ⊎_elim,
-  arith,
-}
+use Rattle.std.proofs.Common.{◌≡◌, ◌≢◌, ℕ, Option, Some, None, List, ◌++◌, length, set, is_some}
+use Rattle.std.proofs.Common.{refl, sym, ap, ◌∙◌, subst, ⊎_elim, arith}
 use Rattle.std.proofs.lemmas.Bool.{false≢true}
 use mathlib.Core.Logic.{dite}
 use mathlib.Core.Option.{some, some-injective}
@@ -51,12 +33,8 @@ use Rattle.path_rule.specs.Rule.{IsSeat, Knows, IsSized, Ruled}
 use Rattle.path_rule.specs.Sharing.{spent, told_by, taking}
 use Rattle.path_rule.specs.Trails.{TrailTells, ViewTells}
 use Rattle.path_rule.proofs.boxes.AtHome.{inside_list}
-use Rattle.path_rule.proofs.boxes.MemtablesStay.{
-  memtables_seen,
-  none_in_hand,
-  runs_else,
-  runs_still,
-}
+use Rattle.path_rule.proofs.boxes.MemtablesStay.{memtables_seen, none_in_hand, runs_else}
+use Rattle.path_rule.proofs.boxes.MemtablesStay.{runs_still}
 use Rattle.path_rule.proofs.boxes.SameBoxes.{reboxed, holds_none}
 use Rattle.path_rule.proofs.log.TrailsTell.{none_tells}
 use Rattle.path_rule.proofs.moves.Moving.{core_lawful, known, puts_now, reads_now}
@@ -107,6 +85,8 @@ module _ {K : Type 0} (shows : K → Lasting) (o : Beside) (size : PathSize) (id
         fit = r.fit;
         wide = r.wide;
         rows = r.rows;
+        few = r.few;
+        paid = r.paid;
         long = r.long;
         enough = r.enough;
         words = r.words;

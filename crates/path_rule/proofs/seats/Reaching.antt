@@ -4,31 +4,25 @@ use Rattle.std.specs.Prelude.{IfOk}
 use Rattle.path_core.specs.declared.event.Event.{Event}
 use Rattle.path_core.specs.declared.event.Place.{Place}
 use Rattle.path_core.specs.declared.keeper.KeeperFault.{KeeperFault}
+use Rattle.path_core.specs.declared.keeper.KeeperFault.TheVariants.{Stopped as KeeperStopped}
 use Rattle.path_core.specs.declared.keeper.KeeperFault.TheVariants.{
-  Stopped as KeeperStopped,
   OutOfMemory as KeeperOutOfMemory,
 }
-use Rattle.path_core.specs.declared.seat.LastMarker.{LastMarker}
 use Rattle.path_core.specs.Keys.{after}
 use Rattle.path_rule.specs.declared.answer.SyncAnswer.{SyncAnswer}
-use Rattle.path_rule.specs.declared.answer.SyncAnswer.TheVariants.{
-  Done,
-  Stopped,
-  OutOfMemory,
-  Rows,
-}
+use Rattle.path_rule.specs.declared.answer.SyncAnswer.TheVariants.{Done, Stopped, OutOfMemory}
 use Rattle.path_rule.specs.declared.view.OwnStep.{OwnStep}
 use Rattle.path_rule.specs.declared.view.View.{View}
 use Rattle.path_rule.specs.Finds.{Finds}
 use Rattle.path_rule.specs.Reached.{MayReach, Reaches}
 use Rattle.path_rule.specs.Rounds.{RoundSteps}
-use Rattle.path_rule.specs.SyncAnswers.{IsDoneBy, IsFullBy, IsHaltedBy, said_by}
+use Rattle.path_rule.specs.SyncAnswers.{IsDoneBy, IsHaltedBy, said_by}
 use Rattle.path_rule.proofs.log.Behind.{above_after}
 use Rattle.path_rule.proofs.seats.Answering.{found_before}
 
 -- what was found is found still behind further steps
-pub found_on : (w : ℕ) (puts : List Event) (v after : View) (at : Place) (n : ℕ)
-    → RoundSteps w puts v after → Finds at n v.trail → Finds at n after.trail
+pub found_on : {k : ℕ} (w : ℕ) (puts : List Event) (v after : View) (at : Place) (n : ℕ)
+    → RoundSteps w k puts v after → Finds at n v.trail → Finds at n after.trail
 found_on w puts v after at n S F = subst (λ (l : List OwnStep). Finds at n l) (sym S.trail)
     (found_before at n S.steps v.trail F)
 
@@ -38,7 +32,6 @@ pub reaches_less : (capacity low high : ℕ) (a : SyncAnswer) → low ≤ high
 reaches_less capacity low high (Done s) le R = omega (arith, le, R)
 reaches_less capacity low high (Stopped at_open now) le R = tt
 reaches_less capacity low high OutOfMemory le R = tt
-reaches_less capacity low high (Rows n) le R = tt
 
 pub may_less : (capacity low high : ℕ) (a : Option SyncAnswer) → low ≤ high
     → MayReach capacity high a → MayReach capacity low a
@@ -64,10 +57,4 @@ pub halted_reaches : (capacity key opened now : ℕ) (a : Option SyncAnswer)
     → IsHaltedBy opened now a → MayReach capacity key a
 halted_reaches capacity key opened now None is = tt
 halted_reaches capacity key opened now (Some a) is =
-    subst (Reaches capacity key) (sym is.0) tt
-
-pub full_reaches : (capacity key log size : ℕ) (marker : Option LastMarker)
-    (a : Option SyncAnswer) → IsFullBy size marker log a → MayReach capacity key a
-full_reaches capacity key log size marker None is = tt
-full_reaches capacity key log size marker (Some a) is =
     subst (Reaches capacity key) (sym is.0) tt

@@ -1,25 +1,6 @@
 -- What the steps of barriers and syncs leave, one by one and together.
-use Rattle.std.proofs.Common.{
-  ◌≡◌,
-  ℕ,
-  Bool,
-  true,
-  false,
-  if◌then◌else◌,
-  List,
-  [],
-  ◌∷◌,
-  ◌++◌,
-  Option,
-  Some,
-  None,
-  is_some,
-  refl,
-  sym,
-  ap,
-  ◌∙◌,
-  subst,
-}
+use Rattle.std.proofs.Common.{◌+◌, ◌≤◌, cond, arith, ◌≡◌, ℕ, Bool, true, false, if◌then◌else◌, List}
+use Rattle.std.proofs.Common.{[], ◌∷◌, ◌++◌, Option, Some, None, is_some, refl, sym, ap, ◌∙◌, subst}
 use Rattle.std.proofs.Math.ListN.{get_or-map as get_or-map_default}
 use Rattle.std.proofs.lemmas.List.{append_assoc}
 use Rattle.std.specs.Option.{option_map, option_map_or}
@@ -29,33 +10,13 @@ use Rattle.op_core.specs.Tallies.{is_finished}
 use Rattle.path_core.specs.declared.event.ClaimKind.TheVariants.{Entry, Marker}
 use Rattle.path_core.specs.declared.event.Cursor.TheVariants.{Synced, OldestLive, Stopped}
 use Rattle.path_core.specs.declared.event.Event.{Event}
-use Rattle.path_core.specs.declared.event.Event.TheVariants.{
-  Look,
-  Register,
-  Close,
-  OpenGroup,
-  MoveCurrent,
-  Expire,
-  Advance,
-  Claim,
-  Switch,
-  Raise,
-  Finalise,
-  TakeTurn,
-  GiveTurn,
-  Put,
-}
+use Rattle.path_core.specs.declared.event.Event.TheVariants.{Look, Register, Close, OpenGroup}
+use Rattle.path_core.specs.declared.event.Event.TheVariants.{MoveCurrent, Expire, Advance, Claim}
+use Rattle.path_core.specs.declared.event.Event.TheVariants.{Switch, Raise, Finalise, TakeTurn}
+use Rattle.path_core.specs.declared.event.Event.TheVariants.{GiveTurn, Put}
 use Rattle.path_core.specs.declared.event.Place.{Place}
-use Rattle.path_core.specs.declared.event.Place.TheVariants.{
-  Count,
-  Current,
-  Oldest,
-  Log,
-  Newest,
-  Bound as BoundOf,
-  TurnWord,
-  CursorWord,
-}
+use Rattle.path_core.specs.declared.event.Place.TheVariants.{Count, Current, Oldest, Log, Newest}
+use Rattle.path_core.specs.declared.event.Place.TheVariants.{Bound as BoundOf, TurnWord, CursorWord}
 use Rattle.path_core.specs.declared.event.Reading.{Reading}
 use Rattle.path_core.specs.declared.event.Reading.TheVariants.{Operations, Number, Limit}
 use Rattle.path_core.specs.declared.event.Turn.TheVariants.{Sync, Flush}
@@ -65,51 +26,27 @@ use Rattle.path_core.specs.declared.seat.FlushTurn.{FlushTurn}
 use Rattle.path_core.specs.declared.seat.Seat.{Seat}
 use Rattle.path_core.specs.declared.seat.SeatTable.{SeatTable}
 use Rattle.path_core.specs.declared.seat.Switching.{Switching}
-use Rattle.path_core.specs.declared.seat.Switching.TheVariants.{
-  Begun,
-  Marked,
-  Settled,
-  Waiting,
-  WithBarrier,
-}
+use Rattle.path_core.specs.declared.seat.Switching.TheVariants.{Begun, Marked, Settled, Waiting}
+use Rattle.path_core.specs.declared.seat.Switching.TheVariants.{WithBarrier}
 use Rattle.path_core.specs.declared.seat.SyncTurn.{SyncTurn}
 use Rattle.path_core.specs.Next.{has_filed}
 use Rattle.path_core.specs.Parts.{seat_table, untouched, IsIdle}
 use Rattle.path_core.specs.SeatAfter.{Told, number_read, seat_after, looked}
-use Rattle.path_core.specs.SeatParts.{
-  barrier_issued,
-  finished_found,
-  keeps,
-  key_found,
-  log_found,
-  with_barrier,
-}
+use Rattle.path_core.specs.SeatParts.{barrier_issued, finished_found, keeps, key_found, log_found}
+use Rattle.path_core.specs.SeatParts.{with_barrier}
 use Rattle.path_core.specs.Words.{place_of}
-use Rattle.path_core.proofs.seats.Columns.{
-  Columns,
-  write_after,
-  append_after,
-  claim_after,
-  flush_after,
-}
+use Rattle.path_core.proofs.seats.Columns.{Columns, write_after, append_after, claim_after}
+use Rattle.path_core.proofs.seats.Columns.{flush_after}
 use Rattle.path_core.proofs.seats.StepColumns.{columns, FitsSeat}
 use Rattle.path_rule.specs.declared.view.Hands.{Hands}
 use Rattle.path_rule.specs.declared.view.OwnStep.{OwnStep}
 use Rattle.path_rule.specs.declared.view.View.{View}
 use Rattle.path_rule.specs.Calls.{Did, DidAs}
 use Rattle.path_rule.specs.Layout.{reading_at}
-use Rattle.path_rule.specs.Rounds.{
-  IsRoundStep,
-  AreRoundSteps,
-  with_put,
-  puts_of,
-  IsAtRest,
-  IsQuiet,
-  IsQuietStage,
-  RoundSteps,
-  EndsBelow,
-  WroteBelow,
-}
+use Rattle.path_rule.specs.Issued.{is_issue, issued_in}
+use Rattle.path_rule.proofs.log.Issues.{issued_both}
+use Rattle.path_rule.specs.Rounds.{IsRoundStep, AreRoundSteps, with_put, puts_of, IsAtRest, IsQuiet}
+use Rattle.path_rule.specs.Rounds.{IsQuietStage, RoundSteps, EndsBelow, WroteBelow}
 use Rattle.path_rule.specs.Rule.{told_by}
 use Rattle.path_rule.proofs.seats.Staying.{none_is}
 
@@ -346,12 +283,14 @@ idle_still e p q P C I free = (
 
 -- where the step leaves what the seat reads of a memtable
 abbrev pub one_as : (w : ℕ) (e : Event) (n : ℕ) (h : Hands) (v after : View) → IsRoundStep w e
-    → DidAs v w e n h after → h.reading ≡ v.hands.reading → RoundSteps w (with_put e []) v after
+    → DidAs v w e n h after → h.reading ≡ v.hands.reading
+    → RoundSteps w (cond (is_issue e) 1 0) (with_put e []) v after
 one_as w e n h v after is d reads = let P = is_plain w e is in
     let r = reading_at (place_of e) n in let told = told_by None h in record {
       steps = record { event = e; found = n; filed = None } ∷ [];
       trail = ap (λ (u : View). u.trail) d.view;
       are = (is, tt);
+      issues = omega arith;
       puts_are = refl;
       rests = λ R. subst (λ (u : View). IsAtRest u.part) (sym d.view)
           (rests_still e v.part _ P (columns e v.part r told (P.fits v.part)) R);
@@ -367,17 +306,18 @@ one_as w e n h v after is d reads = let P = is_plain w e is in
     }
 
 abbrev pub one : (w : ℕ) (e : Event) (n : ℕ) (v after : View) → IsRoundStep w e
-    → Did v w e n after → RoundSteps w (with_put e []) v after
+    → Did v w e n after → RoundSteps w (cond (is_issue e) 1 0) (with_put e []) v after
 one w e n v after is d =
     one_as w e n v.hands v after is (record { view = d.view; was = d.was }) refl
 
 -- ---- steps together
 
-pub none_yet : (w : ℕ) (v after : View) → after ≡ v → RoundSteps w [] v after
+pub none_yet : (w : ℕ) (v after : View) → after ≡ v → RoundSteps w 0 [] v after
 none_yet w v after same = record {
   steps = [];
   trail = ap (λ (u : View). u.trail) same;
   are = tt;
+  issues = omega arith;
   puts_are = refl;
   rests = λ R. subst (λ (u : View). IsAtRest u.part) (sym same) R;
   idles = λ I free. subst (λ (u : View). IsIdle u.part × (u.part.claim ≡ None)) (sym same)
@@ -415,13 +355,15 @@ puts_both [] us = refl
 puts_both (t ∷ ts) us =
     ap (with_put t.event) (puts_both ts us) ∙ put_on t.event (puts_of ts) (puts_of us)
 
-abbrev pub both : (w : ℕ) (ps qs : List Event) (v u after : View) → RoundSteps w ps v u
-    → RoundSteps w qs u after → RoundSteps w (qs ++ ps) v after
+abbrev pub both : {a b : ℕ} (w : ℕ) (ps qs : List Event) (v u after : View)
+    → RoundSteps w a ps v u → RoundSteps w b qs u after → RoundSteps w (b + a) (qs ++ ps) v after
 both w ps qs v u after A B = record {
   steps = B.steps ++ A.steps;
   trail = B.trail ∙ (ap (λ l. B.steps ++ l) A.trail
       ∙ sym (append_assoc B.steps A.steps v.trail));
   are = are_both w B.steps A.steps B.are A.are;
+  issues = (let all = issued_both B.steps A.steps in let first = A.issues in
+      let more = B.issues in omega (arith, all, first, more));
   puts_are = puts_both B.steps A.steps
       ∙ (ap (λ l. l ++ puts_of A.steps) B.puts_are ∙ ap (λ l. qs ++ l) A.puts_are);
   rests = λ R. B.rests (A.rests R);
@@ -435,12 +377,13 @@ both w ps qs v u after A B = record {
 }
 
 -- the same steps, where what they put is told otherwise
-abbrev pub renamed : (w : ℕ) (ps qs : List Event) (v after : View) → ps ≡ qs
-    → RoundSteps w ps v after → RoundSteps w qs v after
+abbrev pub renamed : {n : ℕ} (w : ℕ) (ps qs : List Event) (v after : View) → ps ≡ qs
+    → RoundSteps w n ps v after → RoundSteps w n qs v after
 renamed w ps qs v after same A = record {
   steps = A.steps;
   trail = A.trail;
   are = A.are;
+  issues = A.issues;
   puts_are = A.puts_are ∙ same;
   rests = A.rests;
   idles = A.idles;
@@ -458,20 +401,45 @@ wrote_still w key [] us A B = B
 wrote_still w key (t ∷ ts) us A B =
     ((is_plain w t.event A.0).below key, wrote_still w key ts us A.1 B)
 
-pub still_wrote : (w key : ℕ) (puts : List Event) (v after : View) → RoundSteps w puts v after
+pub still_wrote : {n : ℕ} (w key : ℕ) (puts : List Event) (v after : View)
+    → RoundSteps w n puts v after
     → WroteBelow key v.trail → WroteBelow key after.trail
 still_wrote w key puts v after S B =
     subst (λ l. WroteBelow key l) (sym S.trail) (wrote_still w key S.steps v.trail S.are B)
 
 -- the same, where the number of the seat is told anew
-pub next : (w z : ℕ) (ps qs : List Event) (v u after : View) → z ≡ w → RoundSteps w ps v u
-    → RoundSteps z qs u after → RoundSteps w (qs ++ ps) v after
-next w z ps qs v u after same A B =
-    both w ps qs v u after A (subst (λ k. RoundSteps k qs u after) same B)
+pub next : {a b : ℕ} (w z : ℕ) (ps qs : List Event) (v u after : View) → z ≡ w
+    → RoundSteps w a ps v u → RoundSteps z b qs u after → RoundSteps w (b + a) (qs ++ ps) v after
+next {b = b} w z ps qs v u after same A B =
+    both w ps qs v u after A (subst (λ k. RoundSteps k b qs u after) same B)
 
 -- the same steps, where the number and the view before are told otherwise
-pub from : (w z : ℕ) (ps : List Event) (v u after : View) → z ≡ w → u ≡ v
-    → RoundSteps z ps u after → RoundSteps w ps v after
-from w z ps v u after number view A =
-    subst (λ (x : View). RoundSteps w ps x after) view
-    (subst (λ k. RoundSteps k ps u after) number A)
+pub from : {n : ℕ} (w z : ℕ) (ps : List Event) (v u after : View) → z ≡ w → u ≡ v
+    → RoundSteps z n ps u after → RoundSteps w n ps v after
+from {n = n} w z ps v u after number view A =
+    subst (λ (x : View). RoundSteps w n ps x after) view
+    (subst (λ k. RoundSteps k n ps u after) number A)
+
+-- how many barriers the seat has issued then
+pub issued_by : {n : ℕ} (w : ℕ) (puts : List Event) (v after : View) → RoundSteps w n puts v after
+    → issued_in after.trail ≤ n + issued_in v.trail
+issued_by w puts v after S = let all = ap issued_in S.trail in
+    let both = issued_both S.steps v.trail in let few = S.issues in omega (arith, all, both, few)
+
+-- the same steps, where more may be of that kind
+abbrev pub at_most : {a b : ℕ} (w : ℕ) (ps : List Event) (v after : View) → a ≤ b
+    → RoundSteps w a ps v after → RoundSteps w b ps v after
+at_most w ps v after up A = record {
+  steps = A.steps;
+  trail = A.trail;
+  are = A.are;
+  issues = (let few = A.issues in omega (arith, few, up));
+  puts_are = A.puts_are;
+  rests = A.rests;
+  idles = A.idles;
+  tables = A.tables;
+  reading = A.reading;
+  unfiled = A.unfiled;
+  returned = A.returned;
+  size = A.size;
+}

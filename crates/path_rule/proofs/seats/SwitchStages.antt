@@ -1,34 +1,7 @@
 -- What the holder of a table's turn keeps of a switch after each of its steps.
-use Rattle.std.proofs.Common.{
-  ◌≡◌,
-  ◌≢◌,
-  ℕ,
-  ◌+◌,
-  ◌-◌,
-  ◌^◌,
-  ◌<◌,
-  ◌≤◌,
-  max,
-  Bool,
-  true,
-  false,
-  length,
-  get_or,
-  Option,
-  Some,
-  None,
-  is_some,
-  IsTrue,
-  refl,
-  sym,
-  ap,
-  ◌∙◌,
-  subst,
-  arith,
-  eq-eqb,
-  get_or-set_same,
-  get_or-set_other,
-}
+use Rattle.std.proofs.Common.{◌≡◌, ◌≢◌, ℕ, ◌+◌, ◌-◌, ◌^◌, ◌<◌, ◌≤◌, max, Bool, true, false, length}
+use Rattle.std.proofs.Common.{get_or, Option, Some, None, is_some, IsTrue, refl, sym, ap, ◌∙◌}
+use Rattle.std.proofs.Common.{subst, arith, eq-eqb, get_or-set_same, get_or-set_other}
 use Rattle.std.specs.Option.{option_map}
 use Rattle.std.specs.Prelude.{◌&&◌, ◌||◌, if◌then◌else◌}
 use Rattle.std.proofs.lemmas.Bool.{false≢true}
@@ -40,60 +13,32 @@ use Rattle.op_core.specs.declared.count.Order.TheVariants.{Append, Write}
 use Rattle.op_core.specs.Tallies.{is_finished}
 use Rattle.path_core.specs.declared.event.Cursor.TheVariants.{OldestLive}
 use Rattle.path_core.specs.declared.event.Event.{Event}
-use Rattle.path_core.specs.declared.event.Event.TheVariants.{
-  Finalise,
-  Look,
-  MoveCurrent,
-  Raise,
-  Switch,
-}
-use Rattle.path_core.specs.declared.event.Place.TheVariants.{
-  Bound,
-  Count,
-  Current,
-  CursorWord,
-  Log,
-  Newest,
-  Oldest,
-}
-use Rattle.path_core.specs.declared.event.SwitchPart.TheVariants.{Open, Mark}
+use Rattle.path_core.specs.declared.event.Event.TheVariants.{Finalise, Look, MoveCurrent, Raise}
+use Rattle.path_core.specs.declared.event.Event.TheVariants.{Switch}
+use Rattle.path_core.specs.declared.event.Place.TheVariants.{Bound, Count, Current, CursorWord, Log}
+use Rattle.path_core.specs.declared.event.Place.TheVariants.{Newest, Oldest}
+use Rattle.path_core.specs.declared.event.SwitchPart.TheVariants.{Clear, Open, Mark}
 use Rattle.path_core.specs.declared.seat.FlushTurn.{FlushTurn}
 use Rattle.path_core.specs.declared.seat.FoundGroups.{FoundGroups}
 use Rattle.path_core.specs.declared.seat.Marked.{Marked}
 use Rattle.path_core.specs.declared.seat.Seat.{Seat}
 use Rattle.path_core.specs.declared.seat.SeatTable.{SeatTable}
 use Rattle.path_core.specs.declared.seat.Switching.{Switching}
-use Rattle.path_core.specs.declared.seat.Switching.TheVariants.{
-  Begun,
-  Marked as MarkedStage,
-  Waiting,
-  WithBarrier,
-}
+use Rattle.path_core.specs.declared.seat.Switching.TheVariants.{Begun, Marked as MarkedStage}
+use Rattle.path_core.specs.declared.seat.Switching.TheVariants.{Waiting, WithBarrier}
 use Rattle.path_core.specs.declared.state.Bound.{Bound as BoundOf}
 use Rattle.path_core.specs.declared.state.Bound.TheVariants.{Raising, Final}
 use Rattle.path_core.specs.LawfulSeats.{IsRaisingFrom}
 use Rattle.path_core.specs.Parts.{is_at, seat_table, stage_of, untouched}
 use Rattle.path_core.specs.SeatAfter.{raised_stage}
-use Rattle.path_core.specs.SeatParts.{
-  barrier_issued,
-  begins_at,
-  bound_found,
-  current_found,
-  finished_found,
-  has_note_of,
-  is_raising,
-  keeps,
-  key_found,
-  log_found,
-  made_final,
-  oldest_found,
-  raised_to,
-  with_barrier,
-}
+use Rattle.path_core.specs.SeatParts.{barrier_issued, begins_at, bound_found, current_found}
+use Rattle.path_core.specs.SeatParts.{finished_found, has_note_of, is_raising, keeps, key_found}
+use Rattle.path_core.specs.SeatParts.{log_found, made_final, oldest_found, raised_to, with_barrier}
 use Rattle.path_core.specs.Words.{reading}
 use Rattle.path_core.proofs.tables.StageTells.{stage_exact}
 use Rattle.path_rule.specs.declared.view.View.{View}
-use Rattle.path_rule.specs.Layout.{bound_in, bound_word, tally_in, word_of}
+use Rattle.op_core.specs.CountWords.{tally_in}
+use Rattle.path_rule.specs.Layout.{bound_in, bound_word, word_of}
 use Rattle.path_rule.specs.Rule.{view_after, Was}
 use Rattle.path_rule.specs.Switches.{FlushNewest, FlushOldest, FlushRaised}
 use Rattle.path_rule.proofs.moves.SwitchSteps.{turn_at}
@@ -218,7 +163,7 @@ module _ (v : View) (w : ℕ) (t : Table) (few : t.0 < 16) where
   )
 
   pub newest_small : (n : ℕ) (was : Was v w (Look w (Newest t)))
-      → word_of (reading was.core (Newest t)) ≡ n → n < 256
+      → word_of (reading was.core (Newest t)) ≡ n → n < 2 ^ 47
   newest_small n was found = let made = (was.lawful.switches.tables t.0).bounds_rise.made in
       let rows = was.rows.memtables t.0 in omega arith
 
@@ -247,9 +192,27 @@ module _ (v : View) (w : ℕ) (t : Table) (few : t.0 < 16) where
   opened_stage f was turn is =
       ap (λ (st : SeatTable). stage_in st.flush)
       (get_or-set_same v.part.tables t.0 _ untouched (inside _ was))
-      ∙ (staged (λ k. Begun f) (λ (turn : FlushTurn). record turn { newest = Some f })
+      ∙ (staged (λ k. Begun f)
+      (λ (turn : FlushTurn). record turn { newest = Some f; cleared = None })
       (λ turn. refl) (seat_table v.part t.0).flush
       ∙ ap (λ o. option_map (λ (k : Switching). Begun f) (stage_in o)) is)
+
+  pub cleared_stage : (f n : ℕ) → Was v w (Switch w t f Clear)
+      → stage_of (view_after v (Switch w t f Clear) n).part t.0 ≡ stage_of v.part t.0
+  cleared_stage f n was =
+      ap (λ (st : SeatTable). stage_in st.flush)
+      (get_or-set_same v.part.tables t.0 _ untouched (inside _ was))
+      ∙ by (seat_table v.part t.0).flush
+    where
+      by : (o : Option FlushTurn)
+          → stage_in (option_map (λ (turn : FlushTurn). record turn { cleared = Some f }) o)
+          ≡ stage_in o
+      by None = refl
+      by (Some turn) = refl
+
+  pub clear_leaves : (f n u : ℕ) → u ≢ t.0
+      → seat_table (view_after v (Switch w t f Clear) n).part u ≡ seat_table v.part u
+  clear_leaves f n u apart = get_or-set_other v.part.tables t.0 u _ untouched apart
 
   pub marked_stage : (f n : ℕ) → Was v w (Switch w t f Mark) → (k : Switching)
       → stage_of v.part t.0 ≡ Some k

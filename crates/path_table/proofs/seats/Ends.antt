@@ -1,35 +1,8 @@
 -- What a closed table tells.
-use Rattle.std.proofs.Common.{
-  ◌≡◌,
-  ℕ,
-  zero,
-  suc,
-  ◌+◌,
-  ◌*◌,
-  ◌<◌,
-  ◌≤◌,
-  Bool,
-  false,
-  cond,
-  get_or,
-  set,
-  List,
-  [],
-  ◌∷◌,
-  map,
-  Option,
-  None,
-  is_some,
-  eq-eqb,
-  refl,
-  sym,
-  ap,
-  ◌∙◌,
-  subst,
-  ⊎_elim,
-  arith,
-}
-use Rattle.std.specs.Prelude.{slice_index}
+use Rattle.std.proofs.Common.{◌≡◌, ℕ, zero, suc, ◌+◌, ◌*◌, ◌<◌, ◌≤◌, Bool, false, cond, get_or, set}
+use Rattle.std.proofs.Common.{List, [], ◌∷◌, map, Option, None, is_some, eq-eqb, refl, sym, ap, ◌∙◌}
+use Rattle.std.proofs.Common.{subst, ⊎_elim, arith}
+use Rattle.std.specs.Prelude.{◌^◌, slice_index}
 use mathlib.Core.Logic.{dite}
 use mathlib.Core.Option.{some, none, some-injective, some-ne-none}
 use mathlib.Core.Option as maybe
@@ -193,9 +166,9 @@ module _ {K : Type 0} (shows : K → Lasting) (o : Beside) where
   -- the words tell of how many memtables there are, and the bounds below the newest ones
   pub few_words : (key : PathSize) (id : ℕ) (v : View) (ws : List ℕ) (xs : List (Slot K))
       → Final (Seen (Ruled shows o key) id v) ws xs
-      → (t : ℕ) → t < 16 → slice_index ws (8 + 4 * t) ≤ 256
+      → (t : ℕ) → t < 16 → slice_index ws (8 + 4 * t) ≤ 2 ^ 47
   few_words key id v ws xs f t inside = let r : Ruled shows o key f.0 = f.1.0 in
-      subst (λ (l : List ℕ). slice_index l (8 + 4 * t) ≤ 256) f.2
+      subst (λ (l : List ℕ). slice_index l (8 + 4 * t) ≤ 2 ^ 47) f.2
       (few_newest r.core (core_lawful shows o key f.0 r) r.rows f.0.words r.words t inside)
 
   tells_them : (key : PathSize) (id : ℕ) (v : View) (ws : List ℕ) (xs : List (Slot K))

@@ -1,24 +1,7 @@
 -- Where nobody holds the turn of a table, its newest switch is through: the bound below the newest
 -- memtable is final, and its barrier is passed.
-use Rattle.std.proofs.Common.{
-  ◌≡◌,
-  ℕ,
-  suc,
-  ◌-◌,
-  ◌<◌,
-  ◌≤◌,
-  length,
-  Option,
-  Some,
-  None,
-  refl,
-  sym,
-  ap,
-  ◌∙◌,
-  subst,
-  ⊎_elim,
-  arith,
-}
+use Rattle.std.proofs.Common.{◌≡◌, ℕ, suc, ◌<◌, ◌≤◌, length, Option, Some, None, refl, sym, ap, ◌∙◌}
+use Rattle.std.proofs.Common.{subst, ⊎_elim, arith}
 use Rattle.std.proofs.lemmas.Bool.{false≢true}
 use Rattle.std.proofs.Math.ListN.{get_or-eq_default}
 use Rattle.std.specs.Prelude.{IsSome, slice_index}
@@ -32,17 +15,8 @@ use Rattle.path_core.specs.declared.state.PathState.{PathState}
 use Rattle.path_core.specs.declared.state.TableState.{TableState}
 use Rattle.path_core.specs.History.{bound_before}
 use Rattle.path_core.specs.Lawful.{IsLawfulPath}
-use Rattle.path_core.specs.Parts.{
-  HasPassedBarrier,
-  IsFinal,
-  fresh_seat,
-  fresh_table,
-  key_of_bound,
-  memtable_of,
-  seat_of,
-  seat_table,
-  table_of,
-}
+use Rattle.path_core.specs.Parts.{HasPassedBarrier, IsFinal, fresh_seat, fresh_table, key_of_bound}
+use Rattle.path_core.specs.Parts.{memtable_of, seat_of, seat_table, table_of}
 use Rattle.path_core.proofs.seats.Columns.{untouched_there}
 use Rattle.path_table.specs.declared.bounds.TableBounds.{TableBounds}
 use Rattle.path_table.specs.ClosedBounds.{TellsBounds}

@@ -1,26 +1,8 @@
 -- The words of a closed table tell the bounds below the newest memtables.
-use Rattle.std.proofs.Common.{
-  ◌≡◌,
-  ◌≢◌,
-  ℕ,
-  zero,
-  suc,
-  ◌+◌,
-  ◌-◌,
-  ◌*◌,
-  ◌<◌,
-  ◌≤◌,
-  List,
-  [],
-  ◌∷◌,
-  length,
-  refl,
-  sym,
-  ap,
-  ◌∙◌,
-  arith,
-}
+use Rattle.std.proofs.Common.{◌≡◌, ◌≢◌, ℕ, zero, suc, ◌+◌, ◌-◌, ◌*◌, ◌<◌, ◌≤◌, List, [], ◌∷◌}
+use Rattle.std.proofs.Common.{length, refl, sym, ap, ◌∙◌, arith}
 use Rattle.std.specs.Prelude.{◌%◌, ◌^◌, slice_index, slice_set}
+use mathlib.Core.Logic.{inl}
 use mathlib.Core.Option.{some, some-injective, some-ne-none}
 use lib.ListN.{get_elem?}
 use Rattle.path_core.specs.declared.event.Place.{Place}
@@ -32,7 +14,7 @@ use Rattle.path_core.specs.History.{bound_below, bound_before}
 use Rattle.path_core.specs.Lawful.{IsLawfulPath}
 use Rattle.path_core.specs.Parts.{key_of_bound, memtable_of, table_of}
 use Rattle.path_core.specs.Words.{reading}
-use Rattle.path_rule.specs.Layout.{IsWord, bound_word, word_at, word_of}
+use Rattle.path_rule.specs.Layout.{IsShown, bound_word, word_at, word_for}
 use Rattle.path_rule.specs.Rule.{HasRows}
 use Rattle.path_rule.proofs.places.ReadBack.{log_small}
 use Rattle.path_table.specs.ClosedBounds.{key_below, last_key}
@@ -72,10 +54,10 @@ pub at_first : (words : List ℕ) (t n : ℕ) → slice_index words (8 + 4 * t) 
 at_first words t n is none = sym (ap (λ (k : ℕ). key_below words t k) (is ∙ none))
 
 pub at_later : (words : List ℕ) (t n w : ℕ) → slice_index words (8 + 4 * t) ≡ n → n ≢ 0
-    → slice_index words (131144 + 16 * (n - 1) + t) ≡ w → w % 2 ^ 62 ≡ last_key words t
+    → slice_index words (136 + 16 * ((n - 1) % 4) + t) ≡ w → w % 2 ^ 62 ≡ last_key words t
 at_later words t zero w is made at = absurd (made refl)
 at_later words t (suc m) w is made at =
-    let place : 131144 + 16 * (suc m - 1) + t ≡ 131144 + 16 * m + t = omega arith in
+    let place : 136 + 16 * ((suc m - 1) % 4) + t ≡ 136 + 16 * (m % 4) + t = omega arith in
     sym (ap (λ (k : ℕ). key_below words t k) is
     ∙ ap (λ (k : ℕ). k % 2 ^ 62) (ap (λ (k : ℕ). slice_index words k) (sym place) ∙ at))
 
@@ -86,10 +68,10 @@ key_back (Raising k) small = omega arith
 key_back (Final k) small = omega arith
 
 module _ (x : PathState) (L : IsLawfulPath x) (rows : HasRows x) (words : List ℕ)
-    (reads : (at : Place) → IsWord at
-    → slice_index words (word_at at) ≡ word_of (reading x at)) where
-  -- there is a word for each memtable
-  few_made : (t : ℕ) → suc (table_of x t).newest ≤ 256
+    (reads : (at : Place) → IsShown x at
+    → slice_index words (word_at at) ≡ word_for at (reading x at)) where
+  -- the number of each memtable fits its word
+  few_made : (t : ℕ) → suc (table_of x t).newest ≤ 2 ^ 47
   few_made t = let made = (L.switches.tables t).bounds_rise.made in
       let few = rows.memtables t in omega arith
 
@@ -97,18 +79,20 @@ module _ (x : PathState) (L : IsLawfulPath x) (rows : HasRows x) (words : List �
   newest_is : (t : ℕ) → t < 16 → slice_index words (8 + 4 * t) ≡ (table_of x t).newest
   newest_is t inside = reads (Newest (record { 0 = t })) inside
 
-  pub few_newest : (t : ℕ) → t < 16 → slice_index words (8 + 4 * t) ≤ 256
+  pub few_newest : (t : ℕ) → t < 16 → slice_index words (8 + 4 * t) ≤ 2 ^ 47
   few_newest t inside = let is = newest_is t inside in let few = few_made t in omega arith
 
-  below_is : (t n : ℕ) → t < 16 → n ≤ 256 → key_below words t n ≡ bound_below (table_of x t) n
-  below_is t zero inside few = refl
-  below_is t (suc m) inside few =
+  below_is : (t n : ℕ) → t < 16 → (table_of x t).newest ≡ n
+      → key_below words t n ≡ bound_below (table_of x t) n
+  below_is t zero inside is = refl
+  below_is t (suc m) inside is =
       let B = (L.switches.tables t).bounds_rise in let low = B.below_log m in
       let top = log_small x L in
-      ap (λ (w : ℕ). w % 2 ^ 62) (reads (Bound (record { 0 = t }) m) (inside, omega arith))
+      ap (λ (w : ℕ). w % 2 ^ 62)
+      (reads (Bound (record { 0 = t }) m) (inside, inl (omega arith, omega arith)))
       ∙ key_back (memtable_of x t m).bound (omega arith)
 
   pub last_is : (t : ℕ) → t < 16
       → last_key words t ≡ bound_before x t (table_of x t).newest
   last_is t inside = ap (λ (n : ℕ). key_below words t n) (newest_is t inside)
-      ∙ below_is t (table_of x t).newest inside (let few = few_made t in omega arith)
+      ∙ below_is t (table_of x t).newest inside refl

@@ -8,6 +8,7 @@ use Rattle.path_rule.specs.declared.view.Hands.{Hands}
 use Rattle.path_rule.specs.declared.view.View.{View}
 use Rattle.path_flush.proofs.FilingGoes.{quiet_one}
 use Rattle.path_flush.proofs.FilingTurns.{barred_quiet, holder_round}
+use Rattle.path_flush.proofs.FlushPays.{paid_quiet, paid_round}
 use Rattle.path_flush.proofs.FlushTaking.{rests_given}
 use Rattle.path_flush.proofs.SwitchGoes.{quiet_round, stage_same, then_quiet}
 use Rattle.path_flush.proofs.flush_ending.end_flush.Goals as goal
@@ -52,6 +53,15 @@ invariant_of-result g c = let P = c.pass_all-member in let F = c.give_flush in
       };
       bare = G.ensures.same.2
           ∙ (ap (λ l. rest l) (F.ensures.same.2 ∙ P.ensures.same.2) ∙ H.alone);
+      paid =
+          let z = P.result.member.number in let y = F.new.member.number in
+          let x = F.new.member.seat.me.0 in let e = F.ensures.step in
+          paid_quiet {t = t.0} y x G.new.member.seat.me.0
+          (quiet_one y (GiveTurn y Sync) 0 _ x G.new.member.seat.me.0 refl tt tt d)
+          (paid_quiet z u x
+          (quiet_one z (GiveTurn z (Flush t)) 0 _ u x (refl, refl) tt tt
+          (record { view = e.view; was = e.was })) (paid_round m.number v u P.ensures.steps
+          c.requires.paid));
     }
 
 pub returns-clause-steps : goal.returns-clause-steps

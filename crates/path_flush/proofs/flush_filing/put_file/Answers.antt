@@ -7,16 +7,8 @@ use Rattle.path_rule.specs.Lasts.{shows_of}
 use Rattle.path_rule.specs.Turns.{FoundRunning}
 use Rattle.path_flush.specs.FlushFilings.{AwaitsFile, Refused, Retired, TellsFault, stopped_after}
 use Rattle.path_flush.proofs.FilingGoes.{none_retired}
-use Rattle.path_flush.proofs.FilingPuts.{
-  desk_same,
-  filed_at,
-  on_err,
-  on_ok,
-  put_at,
-  stopped_so,
-  tells_so,
-  turns_same,
-}
+use Rattle.path_flush.proofs.FilingPuts.{desk_same, filed_at, on_err, on_ok, put_at, stopped_so}
+use Rattle.path_flush.proofs.FilingPuts.{tells_so, turns_same}
 use Rattle.path_flush.proofs.FilingRounds.{takes_none}
 use Rattle.path_flush.proofs.flush_filing.put_file.Goals as goal
 
@@ -129,8 +121,8 @@ returns-in-Ok-clause-retired g c =
     let number = P.ensures.same.0.1 ∙ L.ensures.same.0.1 in
     let E = c.retire_put in let t = c.args.table.0 in let k = c.args.memtable in
     let after = E.result.0.seat.me.0 in let a = E.result.1 in
-    subst (λ (n : ℕ). Retired n t k v a after) number
-    (subst (λ (u : View). Retired P.result.0.number t k u a after) view E.ensures.retired)
+    subst (λ (n : ℕ). Retired n t k 0 v a after) number
+    (subst (λ (u : View). Retired P.result.0.number t k 0 u a after) view E.ensures.retired)
 
 pub returns-in-Err-clause-same : goal.returns-in-Err-clause-same
 returns-in-Err-clause-same g c = let L = c.last_upper-member in let P = c.put_table-member in
@@ -157,5 +149,5 @@ returns-in-Err-clause-retired g c =
     let number = P.ensures.same.0.1 ∙ L.ensures.same.0.1 in
     let E = c.note_fault in let t = c.args.table.0 in let k = c.args.memtable in
     let after = E.result.0.seat.me.0 in let a = E.result.1 in
-    none_retired m.number t k v after a (subst (λ (n : ℕ). Refused n t v a after) number
-    (subst (λ (u : View). Refused P.result.0.number t u a after) view E.ensures.refused))
+    none_retired m.number t k v after a (subst (λ (n : ℕ). Refused n t 0 v a after) number
+    (subst (λ (u : View). Refused P.result.0.number t 0 u a after) view E.ensures.refused))

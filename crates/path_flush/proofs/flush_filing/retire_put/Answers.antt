@@ -1,21 +1,5 @@
-use Rattle.std.proofs.Common.{
-  ◌≡◌,
-  ◌+◌,
-  ◌<◌,
-  ℕ,
-  suc,
-  [],
-  ◌∷◌,
-  Option,
-  Some,
-  inl,
-  refl,
-  sym,
-  ap,
-  ◌∙◌,
-  subst,
-  arith,
-}
+use Rattle.std.proofs.Common.{◌≡◌, ◌+◌, ◌<◌, ℕ, suc, [], ◌∷◌, Option, Some, inl, refl, sym, ap, ◌∙◌}
+use Rattle.std.proofs.Common.{subst, arith}
 use Rattle.atomic_table.specs.Table.{rest}
 use Rattle.path_core.specs.declared.event.Cursor.TheVariants.{OldestLive}
 use Rattle.path_core.specs.declared.event.Event.TheVariants.{Put}
@@ -27,13 +11,8 @@ use Rattle.path_rule.specs.Retires.{RetiresFiledIn}
 use Rattle.path_rule.specs.Rule.{Was}
 use Rattle.path_flush.specs.declared.flush_answer.Flush.{Flush}
 use Rattle.path_flush.specs.FlushFilings.{MayStop, RetiringSteps}
-use Rattle.path_flush.proofs.FilingGoes.{
-  filed_before,
-  filed_one,
-  may_retire,
-  stopped_behind,
-  then_retiring,
-}
+use Rattle.path_flush.proofs.FilingGoes.{filed_before, filed_one, may_retire, stopped_behind}
+use Rattle.path_flush.proofs.FilingGoes.{then_retiring}
 use Rattle.path_flush.proofs.FilingPuts.{holder_filed, stage_filed}
 use Rattle.path_flush.proofs.FilingRounds.{reads_none}
 use Rattle.path_flush.proofs.flush_filing.retire_put.Goals as goal
@@ -146,7 +125,7 @@ returns-in-None-clause-retired g c =
     let f = next_file h.lasting t.0 c.args.bound.0 F.0 in
     let W = subst (λ (n : ℕ). (was : Was v w (Put w (OldestLive t) n))
     × RetiresFiledIn was.core (Put w (OldestLive t) n) t.0 k f) more (R.ensures.was f F.2) in
-    let first : RetiringSteps w t.0 v u = record {
+    let first : RetiringSteps w t.0 0 v u = record {
       made = filed_one w (Put w (OldestLive t) (k + 1)) (k + 1) lo _ v u (refl, refl) tt d;
       stage = stage_filed v u w (k + 1) lo t (k + 1) _ d t.0;
     } in

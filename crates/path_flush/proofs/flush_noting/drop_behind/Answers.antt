@@ -30,6 +30,6 @@ returns-in-Err-clause-stopped g c = let D = c.drop_due-member in let N = c.note_
     let w = c.args.member.number in let t = c.args.table.0 in let v = c.args.member.seat.me.0 in
     let after = N.result.0.seat.me.0 in
     subst (λ (o : Option Flush). MayStop w t v o after) (sym c.unless_memory.ensures)
-    (dropped_is w t v after N.result.1 (subst (λ k. Refused k t v N.result.1 after)
-    D.ensures.same.0.1 (subst (λ (u : View). Refused D.result.0.number t u N.result.1 after)
+    (dropped_is w t v after N.result.1 (subst (λ k. Refused k t 0 v N.result.1 after)
+    D.ensures.same.0.1 (subst (λ (u : View). Refused D.result.0.number t 0 u N.result.1 after)
     D.ensures.same.1 N.ensures.refused)) N.ensures.fault)

@@ -3,6 +3,7 @@ use Rattle.std.proofs.lemmas.List.{append_assoc}
 use Rattle.std.proofs.lemmas.Option.{none-some}
 use Rattle.path_rule.specs.declared.view.OwnStep.{OwnStep}
 use Rattle.path_flush.proofs.FilingGoes.{then_unswitched, unswitched}
+use Rattle.path_flush.proofs.FlushPays.{paid_on}
 use Rattle.path_flush.proofs.flush_retire.leave_empty.Goals as goal
 
 pub leave_both-requires-clause-through : goal.leave_both-requires-clause-through
@@ -39,3 +40,7 @@ returns-clause-retires g c = let E = c.retire_read-member.ensures.retires in let
       E.1,
       E.2,
     )
+
+pub leave_both-requires-clause-paid : goal.leave_both-requires-clause-paid
+leave_both-requires-clause-paid g c =
+    paid_on c.args.member.number _ _ c.retire_read-member.ensures.steps c.requires.paid

@@ -1,6 +1,7 @@
-use Rattle.std.proofs.Common.{None, inr, sym, ap, ◌∙◌}
+use Rattle.std.proofs.Common.{◌≤◌, None, inr, sym, ap, ◌∙◌, subst}
 use Rattle.std.proofs.lemmas.Option.{none-some}
 use Rattle.path_rule.specs.declared.view.View.{View}
+use Rattle.path_rule.specs.Issued.{issued_in, opened_in}
 use Rattle.path_rule.specs.Lasts.{shows_of}
 use Rattle.path_flush.proofs.FilingGoes.{then_unswitched, unswitched}
 use Rattle.path_flush.proofs.FlushReadSteps.{on_read}
@@ -31,3 +32,8 @@ returns-clause-steps g c = let w = c.args.member.number in let E = c.end_read-ne
     let t = c.args.table in let R = on_read w t.0 E.result t None _ _ E.ensures.step in
     then_unswitched w _ _ _ _ E.ensures.same.1 (record { made = R.made; none = R.none })
     (unswitched _ _ _ c.leave_both.ensures.steps)
+
+pub leave_both-requires-clause-paid : goal.leave_both-requires-clause-paid
+leave_both-requires-clause-paid g c =
+    subst (λ (v : View). opened_in v.trail ≤ issued_in v.trail)
+    (sym c.end_read-newest.ensures.step.view) c.requires.paid

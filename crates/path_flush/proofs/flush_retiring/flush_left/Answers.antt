@@ -1,4 +1,5 @@
 use Rattle.std.proofs.Common.{◌≢◌, ℕ, ◌<◌, ◌≤◌, [], inr, ◌∙◌, arith}
+use Rattle.path_rule.proofs.seats.RoundsGo.{issued_by}
 use Rattle.path_flush.proofs.FilingGoes.{of_quiet, retired_before, retired_behind}
 use Rattle.path_flush.proofs.FlushTaking.{of_table}
 use Rattle.path_flush.proofs.SwitchGoes.{newest_same, oldest_same, quiet_round, stage_same}
@@ -71,3 +72,9 @@ returns-clause-passed g c = let t = c.args.table.0 in let T = c.take_sync_beside
           (quiet_round w [] v u T.ensures.steps) (T.ensures.tables t)) M.ensures.retired)
           (of_quiet y t x after G.ensures.steps (G.ensures.tables t));
     }
+
+pub retire_memtable-member-requires-clause-spends :
+    goal.retire_memtable-member-requires-clause-spends
+retire_memtable-member-requires-clause-spends g c =
+    let few = issued_by c.args.member.number [] _ _ c.take_sync_beside-member.ensures.steps in
+    let low = c.requires.spends in omega (arith, few, low)

@@ -1,17 +1,20 @@
-use Rattle.std.proofs.Common.{◌<◌, inl, inr, sym, ap, ◌∙◌, subst, ⊎_elim}
+use Rattle.std.proofs.Common.{◌<◌, inl, inr, sym, ap, ◌∙◌, subst, ⊎_elim, arith}
 use Rattle.path_core.specs.declared.state.Bound.TheVariants.{Final}
 use Rattle.path_rule.specs.declared.view.Hands.{Hands}
 use Rattle.path_rule.specs.declared.view.PathSize.{PathSize}
 use Rattle.path_rule.specs.declared.view.View.{View}
 use Rattle.path_rule.specs.Flushes.{SeesNone, TakesNone}
+use Rattle.path_rule.specs.Issued.{issued_in, most_issued}
 use Rattle.path_rule.specs.Lasts.{shows_of}
 use Rattle.path_rule.specs.Layout.{bound_word}
 use Rattle.path_flush.specs.declared.flush_gathering.Gathered.{Gathered}
 use Rattle.path_flush.specs.FlushGathers.{HasGathered}
 use Rattle.path_flush.proofs.FilingGathers.{reads_it}
-use Rattle.path_flush.proofs.FilingGoes.{may_retire, of_read, retired_behind, then_filing}
+use Rattle.path_flush.proofs.FilingGoes.{may_retire, more_filing, more_retired, of_read}
+use Rattle.path_flush.proofs.FilingGoes.{retired_behind, then_filing}
 use Rattle.path_flush.proofs.FilingRounds.{it_takes_none}
 use Rattle.path_flush.proofs.FilingTurns.{barred_same, both_reads, of_both}
+use Rattle.path_flush.proofs.FlushGoes.{issued_by}
 use Rattle.path_flush.proofs.FlushReadSteps.{on_looked}
 use Rattle.path_flush.proofs.SwitchGoes.{both_read}
 use Rattle.path_flush.proofs.flush_retiring.retire_memtable.Goals as goal
@@ -59,10 +62,18 @@ returns-in-Nothing-clause-retired g c = let R = c.read_whole-member in
     let L = c.look_read_bound-bound in let m = c.args.member in let w = m.number in
     let z = R.result.0.number in let y = L.new.member.number in let t = c.args.table.0 in
     let u = R.result.0.seat.me.0 in let x = L.new.member.seat.me.0 in let V = c.retire_void in
-    retired_behind w y t c.args.memtable m.seat.me.0 x V.result.0.seat.me.0 V.result.1
+    more_retired w t c.args.memtable m.seat.me.0 V.result.0.seat.me.0 V.result.1 (omega arith)
+    (retired_behind w y t c.args.memtable m.seat.me.0 x V.result.0.seat.me.0 V.result.1
     (L.ensures.same.1 ∙ R.ensures.same.1) (then_filing w z t m.seat.me.0 u x R.ensures.same.1
     R.ensures.steps (of_read z t u x (on_looked z t (bound_word (Final L.result)) c.args.table
-    c.args.memtable u x L.ensures.step))) V.ensures.retired
+    c.args.memtable u x L.ensures.step))) V.ensures.retired)
+
+pub file_memtable-requires-clause-spends : goal.file_memtable-requires-clause-spends
+file_memtable-requires-clause-spends g c = let R = c.read_whole-member in
+    let few = issued_by c.args.member.number _ _ R.ensures.steps.made.made in
+    let low = c.requires.spends in
+    subst (λ (k : View). issued_in k.trail < most_issued)
+    (sym c.look_read_bound-bound.ensures.step.view) (omega (arith, few, low))
 
 pub file_memtable-requires-clause-table : goal.file_memtable-requires-clause-table
 file_memtable-requires-clause-table g c = let R = c.read_whole-member.ensures in
@@ -163,6 +174,7 @@ returns-in-OutOfMemory-clause-retired g c = let R = c.read_whole-member in
     R.ensures.steps (of_read z t u x (on_looked z t (bound_word (Final L.result)) c.args.table
     c.args.memtable u x L.ensures.step)))
     (of_read y t x V.result.seat.me.0 V.ensures.steps) in record {
-      steps = may_retire w t m.seat.me.0 V.result.seat.me.0 S;
+      steps = may_retire w t m.seat.me.0 V.result.seat.me.0
+          (more_filing w t m.seat.me.0 V.result.seat.me.0 (omega arith) S);
       is = S.made.kept;
     }

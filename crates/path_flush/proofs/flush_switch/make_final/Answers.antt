@@ -1,29 +1,34 @@
-use Rattle.std.proofs.Common.{◌+◌, ◌^◌, inl, refl, ap, ◌∙◌, arith, None, false}
+use Rattle.std.proofs.Common.{◌+◌, ◌≤◌, ◌^◌, inl, refl, sym, ap, ◌∙◌, subst, arith, None, false}
 use Rattle.path_core.specs.declared.event.Event.TheVariants.{Look, Switch, Raise, Finalise}
 use Rattle.path_core.specs.declared.event.Place.TheVariants.{Log}
-use Rattle.path_core.specs.declared.event.SwitchPart.TheVariants.{Open, Mark}
+use Rattle.path_core.specs.declared.event.SwitchPart.TheVariants.{Clear, Open, Mark}
 use Rattle.path_core.specs.Parts.{stage_of}
 use Rattle.path_rule.specs.declared.view.View.{View}
+use Rattle.path_rule.specs.Issued.{issued_in, opened_in}
 use Rattle.path_rule.proofs.seats.Answering.{wrote_more}
 use Rattle.path_rule.proofs.seats.SwitchStages.{found_stage}
 use Rattle.path_table.proofs.seats.UnderLog.{under_log}
 use Rattle.path_flush.proofs.FlushGoes.{still_wrote}
 use Rattle.path_flush.proofs.FlushTables.{on_table, then_table}
-use Rattle.path_flush.proofs.FlushSwitching.{
-  final_keeps,
-  from_oldest,
-  look_keeps,
-  mark_keeps,
-  open_keeps,
-  raise_keeps,
-  to_oldest,
-}
-use Rattle.path_flush.proofs.StepsOpen.{opens_one}
+use Rattle.path_flush.proofs.FlushSwitching.{clear_keeps, final_keeps, from_oldest, look_keeps}
+use Rattle.path_flush.proofs.FlushSwitching.{mark_keeps, open_keeps, raise_keeps, to_oldest}
+use Rattle.path_flush.proofs.StepsOpen.{opens_two}
 use Rattle.path_flush.proofs.flush_switch.make_final.Goals as goal
+
+pub clear_place-requires-clause-turn : goal.clear_place-requires-clause-turn
+clear_place-requires-clause-turn g c = let turn = c.requires.turn in
+    (c.args.newest, turn.0, turn.1, omega arith, (let low = turn.2 in omega (arith, low)))
 
 pub open_memtable-requires-clause-turn : goal.open_memtable-requires-clause-turn
 open_memtable-requires-clause-turn g c = let turn = c.requires.turn in
-    (c.args.newest, turn.0, turn.1, omega arith, turn.2)
+    let keeps = c.clear_place.ensures.keeps in (
+      c.args.newest,
+      keeps.newest c.args.newest turn.0,
+      keeps.oldest c.args.newest turn.1,
+      omega arith,
+      subst (λ (v : View). opened_in v.trail ≤ issued_in v.trail)
+          (sym c.clear_place.ensures.step.view) c.requires.paid,
+    )
 
 pub raise_marked-requires-clause-stage : goal.raise_marked-requires-clause-stage
 raise_marked-requires-clause-stage g c =
@@ -41,9 +46,11 @@ returns-clause-made g c =
     let k = c.args.newest in
     let O = c.open_memtable in let M = c.mark_memtable in let L = c.look_log-key in
     let R = c.raise_marked in let F = c.finalise_memtable in
-    let n1 = O.ensures.same.1 in let n2 = M.ensures.same.1 ∙ n1 in
+    let C = c.clear_place in let n0 = C.ensures.same.1 in
+    let n1 = O.ensures.same.1 ∙ n0 in let n2 = M.ensures.same.1 ∙ n1 in
     let n3 = L.ensures.same.1 ∙ n2 in let n4 = R.ensures.same.1 ∙ n3 in
-    let one = on_table w t.0 (Switch w t (k + 1) Open) (k + 1) _ _ tt (refl, refl)
+    let zero = on_table w t.0 (Switch w t (k + 1) Clear) 0 _ _ tt (refl, refl) C.ensures.step in
+    let one = on_table _ t.0 (Switch _ t (k + 1) Open) (k + 1) _ _ tt (refl, refl)
     O.ensures.step in
     let two = on_table _ t.0 (Switch _ t k Mark) (2 ^ 62) _ _ tt (refl, refl) M.ensures.step in
     let three = on_table _ t.0 (Look _ Log) L.result _ _ tt refl L.ensures.step in
@@ -53,16 +60,23 @@ returns-clause-made g c =
     let five = on_table _ t.0 (Finalise _ t k) (F.result.0 + 2 ^ 62) _ _ tt (refl, refl)
     F.ensures.step in
     let all = then_table w _ t.0 _ _ _ n4 (then_table w _ t.0 _ _ _ n3
-    (then_table w _ t.0 _ _ _ n2 (then_table w _ t.0 _ _ _ n1 one two) three) four) five in
+    (then_table w _ t.0 _ _ _ n2 (then_table w _ t.0 _ _ _ n1 (then_table w _ t.0 _ _ _ n0 zero one)
+    two) three) four) five in
     let z = M.new.member.number in
     let last = then_table z _ t.0 _ _ _ (R.ensures.same.1 ∙ L.ensures.same.1)
     (then_table z _ t.0 _ _ _ L.ensures.same.1 three four) five in record {
       made = all.made;
       set = inl (n4, refl, refl, refl);
-      only = (λ of. refl, (tt, (tt, (tt, (tt, tt)))));
-      kept = (tt, (tt, (tt, (tt, (tt, tt)))));
-      opened = opens_one t.0
-          (record { event = Switch w t (k + 1) Open; found = k + 1; filed = None });
+      only = (λ of. refl, (tt, (tt, (tt, (tt, (tt, tt))))));
+      kept = (tt, (tt, (tt, (tt, (tt, (tt, tt))))));
+      opened = opens_two t.0
+          (record {
+            event = Switch C.new.member.number t (k + 1) Open;
+            found = k + 1;
+            filed = None;
+          })
+          (record { event = Switch w t (k + 1) Clear; found = 0; filed = None }) refl;
+      counts = (let is = ap opened_in all.made.trail in omega (arith, is));
       wrote = wrote_more L.result F.result.0 (F.ensures.above L.result R.ensures.raised) _
           (still_wrote z L.result _ _ last.made
           (under_log M.new.member.seat.me.0 z L.result L.ensures.found.0 L.ensures.found.1));
@@ -76,5 +90,6 @@ returns-clause-made g c =
           ∙ (raise_keeps _ _ _ t.0 t k _ (record { 0 = L.result }) R.ensures.step.1
           ∙ (look_keeps _ _ _ t.0 _ L.ensures.step ∙ (mark_keeps _ _ _ t.0 t k _ M.ensures.step
           ∙ (open_keeps _ _ _ t.0 t (k + 1) _ O.ensures.step
-          ∙ to_oldest t.0 k m.seat.me.0.part c.requires.turn.1)))));
+          ∙ (clear_keeps _ _ _ t.0 t (k + 1) _ C.ensures.step
+          ∙ to_oldest t.0 k m.seat.me.0.part c.requires.turn.1))))));
     }

@@ -1,45 +1,22 @@
-use Rattle.std.proofs.Common.{◌++◌, [], inl, refl, ap, ◌∙◌, subst, arith, is_some}
+use Rattle.std.proofs.Common.{◌<◌, ◌≤◌, ◌++◌, [], refl, sym, ap, ◌∙◌, subst, arith, is_some}
 use Rattle.op_core.specs.declared.count.Order.TheVariants.{Write}
 use Rattle.path_core.specs.declared.event.Event.TheVariants.{Look}
 use Rattle.path_core.specs.declared.event.Place.TheVariants.{Current}
 use Rattle.path_core.specs.declared.seat.Switching.TheVariants.{WithBarrier}
 use Rattle.path_core.specs.Parts.{seat_table}
 use Rattle.path_rule.specs.declared.view.View.{View}
+use Rattle.path_rule.specs.Issued.{issued_in, most_issued, opened_in}
 use Rattle.path_rule.specs.Lasts.{shows_of}
 use Rattle.path_rule.proofs.moves.TableTurns.{held_at}
 use Rattle.path_rule.proofs.seats.RoundsGo.{one}
 use Rattle.path_flush.specs.FlushSteps.{Finalises}
 use Rattle.path_flush.proofs.FlushAlone.{only_both, only_none}
-use Rattle.path_flush.proofs.FlushBarring.{
-  both_still,
-  both_switched,
-  final_before,
-  final_behind,
-}
-use Rattle.path_flush.proofs.FlushGoes.{next, of_round, still_wrote}
+use Rattle.path_flush.proofs.FlushBarring.{both_still, both_switched, final_before, final_behind}
+use Rattle.path_flush.proofs.FlushGoes.{issued_by, next, of_round, still_wrote}
+use Rattle.path_flush.proofs.FlushPays.{issued_up, opened_round}
 use Rattle.path_flush.proofs.SwitchGoes.{kept_both, round_kept, round_none}
 use Rattle.path_flush.proofs.StepsOpen.{none_opened, opens_both, round_opens}
 use Rattle.path_flush.proofs.flush_switch.switch_table.Goals as goal
-
-pub returns-then-current-eq-LAST_GROUP-clause-holds :
-    goal.returns-then-current-eq-LAST_GROUP-clause-holds
-returns-then-current-eq-LAST_GROUP-clause-holds g c = let m = c.args.member in
-    let S = c.seek_current-current in let d = S.ensures.step in let t = c.args.table.0 in
-    let w = m.number in both_still (shows_of g.K.Keeper.holds) m.seat.me S.new.member.seat.me w t
-    (one w (Look w (Current Write)) S.result _ _ refl d)
-    (ap (λ (u : View). is_some (seat_table u.part t).flush) d.view ∙ c.requires.holds.holder.held)
-    S.ensures.turn.0 S.ensures.hands S.ensures.same.2 c.requires.holds
-
-pub returns-then-current-eq-LAST_GROUP-clause-switched :
-    goal.returns-then-current-eq-LAST_GROUP-clause-switched
-returns-then-current-eq-LAST_GROUP-clause-switched g c = let S = c.seek_current-current in
-    let w = c.args.member.number in let full = c.if-current-eq-LAST_GROUP.true in record {
-      steps = one w (Look w (Current Write)) S.result _ _ refl S.ensures.step;
-      last = S.result;
-      all = omega (arith, full);
-      found = inl (refl, refl);
-      hands = S.ensures.hands;
-    }
 
 pub make_final-bound-requires-clause-holder : goal.make_final-bound-requires-clause-holder
 make_final-bound-requires-clause-holder g c = let m = c.args.member in
@@ -100,6 +77,13 @@ returns-clause-switched g c = let m = c.args.member in
         past = W.ensures.passed.0;
         oldest = W.ensures.oldest t k k M.stage M.oldest;
       };
+      paid = let many = opened_round F.new.member.number _ _ W.ensures.steps in
+          let one_more = M.counts in let pays = W.ensures.pays in
+          let up = issued_up M.made.steps S.new.member.seat.me.0.trail in
+          let is = ap issued_in M.made.trail in
+          let first = subst (λ (v : View). opened_in v.trail ≤ issued_in v.trail)
+          (sym S.ensures.step.view) c.requires.numbers.0 in
+          omega (arith, many, one_more, pays, up, is, first);
     }
 
 -- the memtable that was made final waits for the barrier
@@ -111,3 +95,14 @@ write_barrier-holder-requires-clause-waiting g c =
       memtable = c.args.newest;
       waits = F.ensures.made.stage;
     }
+
+pub make_final-bound-requires-clause-paid : goal.make_final-bound-requires-clause-paid
+make_final-bound-requires-clause-paid g c =
+    subst (λ (v : View). opened_in v.trail ≤ issued_in v.trail)
+    (sym c.seek_current-current.ensures.step.view) c.requires.numbers.0
+
+pub write_barrier-holder-requires-clause-spends : goal.write_barrier-holder-requires-clause-spends
+write_barrier-holder-requires-clause-spends g c = let S = c.seek_current-current in
+    let few = issued_by S.new.member.number _ _ c.make_final-bound.ensures.made.made in
+    let low = subst (λ (v : View). issued_in v.trail < most_issued) (sym S.ensures.step.view)
+    c.requires.numbers.1 in omega (arith, few, low)

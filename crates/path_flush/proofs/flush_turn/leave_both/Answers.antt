@@ -1,9 +1,10 @@
-use Rattle.std.proofs.Common.{refl, ap, ◌∙◌, arith, is_some}
+use Rattle.std.proofs.Common.{◌≤◌, refl, ap, sym, ◌∙◌, subst, arith, is_some}
 use Rattle.path_core.specs.declared.event.Event.TheVariants.{GiveTurn}
 use Rattle.path_core.specs.declared.event.Turn.TheVariants.{Flush, Sync}
 use Rattle.path_core.specs.Next.{has_filed}
 use Rattle.path_core.specs.Parts.{issue_of}
 use Rattle.path_rule.specs.declared.view.View.{View}
+use Rattle.path_rule.specs.Issued.{issued_in, opened_in}
 use Rattle.path_flush.proofs.FlushGoes.{next, one}
 use Rattle.path_flush.proofs.FlushTaking.{rests_given}
 use Rattle.path_flush.proofs.flush_turn.leave_both.Goals as goal
@@ -33,3 +34,8 @@ returns-clause-steps g c = let w = c.args.member.number in let G = c.give_flush.
       none = (tt, (tt, tt));
       kept = (tt, (tt, tt));
     }
+
+pub give_sync_turn-requires-clause-paid : goal.give_sync_turn-requires-clause-paid
+give_sync_turn-requires-clause-paid g c =
+    subst (λ (v : View). opened_in v.trail ≤ issued_in v.trail)
+    (sym c.give_flush.ensures.step.view) c.requires.paid

@@ -13,7 +13,7 @@ use Rattle.path_flush.proofs.flush_turn.look_memtables.Goals as goal
 
 abbrev looked : (w z o n : ℕ) (t : Table) (v u after : View) → z ≡ w
     → Did v w (Look w (CursorWord (OldestLive t))) o u → Did u z (Look z (Newest t)) n after
-    → QuietSteps w t.0 v after
+    → QuietSteps w t.0 0 v after
 looked w z o n t v u after same a b = record {
   made = next w z v u after same (one w (Look w (CursorWord (OldestLive t))) o _ v u refl
       (record { view = a.view; was = a.was }))
@@ -37,44 +37,29 @@ returns-then-oldest-newest-clause-found g c =
       (N.result, inl (refl, refl), c.if-oldest-newest.true),
     )
 
-pub returns-then-newest-ge-MEMTABLES-clause-steps :
-    goal.returns-then-newest-ge-MEMTABLES-clause-steps
-returns-then-newest-ge-MEMTABLES-clause-steps g c =
+pub returns-else-oldest-newest-clause-steps : goal.returns-else-oldest-newest-clause-steps
+returns-else-oldest-newest-clause-steps g c =
     let O = c.look_oldest_live-oldest in let N = c.look_newest-newest in
     looked c.args.member.now.number _ O.result N.result c.args.table _ _ _ O.ensures.same.1
     O.ensures.step N.ensures.step
 
-pub returns-then-newest-ge-MEMTABLES-clause-found :
-    goal.returns-then-newest-ge-MEMTABLES-clause-found
-returns-then-newest-ge-MEMTABLES-clause-found g c =
-    let O = c.look_oldest_live-oldest in let N = c.look_newest-newest in
-    let low = N.ensures.below in let high = c.if-newest-ge-MEMTABLES.true in
-    let other = c.if-oldest-newest.false in let same : O.result ≡ N.result = omega (arith, other) in
-    let t = c.args.table.0 in let oldest = O.ensures.turn c.requires.holds.holder.held in (
-      looked c.args.member.now.number _ O.result N.result c.args.table _ _ _ O.ensures.same.1
-          O.ensures.step N.ensures.step,
-      omega (arith, low, high),
-      inl (refl, refl),
-      inr (inl (refl, same)),
-      subst (λ (n : ℕ). FlushOldest t N.new.member.seat.me.0.part n) same
-          (N.ensures.keeps O.result oldest),
-      N.ensures.turn (subst (λ (o : Option FlushTurn). IsTrue (is_some o)) (sym oldest.1) refl),
-    )
-
-pub returns-else-newest-ge-MEMTABLES-clause-steps :
-    goal.returns-else-newest-ge-MEMTABLES-clause-steps
-returns-else-newest-ge-MEMTABLES-clause-steps g c =
-    let O = c.look_oldest_live-oldest in let N = c.look_newest-newest in
-    looked c.args.member.now.number _ O.result N.result c.args.table _ _ _ O.ensures.same.1
-    O.ensures.step N.ensures.step
-
-pub returns-else-newest-ge-MEMTABLES-clause-free :
-    goal.returns-else-newest-ge-MEMTABLES-clause-free
-returns-else-newest-ge-MEMTABLES-clause-free g c =
+pub returns-else-oldest-newest-clause-found : goal.returns-else-oldest-newest-clause-found
+returns-else-oldest-newest-clause-found g c =
     let O = c.look_oldest_live-oldest in let N = c.look_newest-newest in
     let other = c.if-oldest-newest.false in
     let same : O.result ≡ N.result = omega (arith, other) in (
       looked c.args.member.now.number _ O.result N.result c.args.table _ _ _ O.ensures.same.1
           O.ensures.step N.ensures.step,
       (inl (refl, refl), inr (inl (refl, same))),
+    )
+
+pub returns-else-oldest-newest-clause-known : goal.returns-else-oldest-newest-clause-known
+returns-else-oldest-newest-clause-known g c =
+    let O = c.look_oldest_live-oldest in let N = c.look_newest-newest in
+    let other = c.if-oldest-newest.false in let same : O.result ≡ N.result = omega (arith, other) in
+    let t = c.args.table.0 in let oldest = O.ensures.turn c.requires.holds.holder.held in (
+      N.ensures.below,
+      subst (λ (n : ℕ). FlushOldest t N.new.member.seat.me.0.part n) same
+          (N.ensures.keeps O.result oldest),
+      N.ensures.turn (subst (λ (o : Option FlushTurn). IsTrue (is_some o)) (sym oldest.1) refl),
     )

@@ -10,7 +10,7 @@ invariant-loop g l = let first = l.fn.member in record {
   next : (goal.iterator-loop g).can_next l.iterator';
   finite : (goal.iterator-loop g).is_finite l.iterator';
   stays : Stays l.path.table.shared.table_id l.path.size first l.member;
-  steps : RoundSteps first.number [] first.seat.me.0 l.member.seat.me.0;
+  steps : RoundSteps first.number 0 [] first.seat.me.0 l.member.seat.me.0;
   tables : (t : ℕ) → seat_table l.member.seat.me.0.part t ≡ seat_table first.seat.me.0.part t;
   holds : HasTable l.fn.table.0 l.member.seat.me;
 }

@@ -1,33 +1,17 @@
-use Rattle.std.proofs.Common.{◌++◌, ◌≤◌, [], inl, inr, sym, ap, ◌∙◌, subst, arith}
-use Rattle.std.proofs.lemmas.Option.{none-some}
-use Rattle.op_core.specs.declared.count.Order.TheVariants.{Write}
-use Rattle.path_core.specs.declared.event.Place.TheVariants.{Current}
+use Rattle.std.proofs.Common.{◌≤◌, [], inl, inr, ap, ◌∙◌, subst, arith}
 use Rattle.path_rule.specs.declared.view.Hands.{Hands}
-use Rattle.path_rule.proofs.seats.Answering.{found_after, found_before}
+use Rattle.path_rule.proofs.seats.RoundsGo.{issued_by as round_issued}
 use Rattle.path_flush.specs.FlushSteps.{Finalises}
-use Rattle.path_flush.specs.FlushSwitches.{SwitchedNone, SwitchedTo}
 use Rattle.path_flush.specs.Opens.{opens}
-use Rattle.path_flush.proofs.FlushAlone.{alone_none, only_both, only_none}
+use Rattle.path_flush.proofs.FlushAlone.{only_both, only_none}
 use Rattle.path_flush.proofs.FlushAnswers.{flushed, got_turn, newest_later}
 use Rattle.path_flush.proofs.FlushBarring.{final_before}
-use Rattle.path_flush.proofs.FlushGoes.{next, of_round, same_list}
+use Rattle.path_flush.proofs.FlushGoes.{issued_by, next, of_round}
+use Rattle.path_flush.proofs.FlushPays.{paid_on, paid_round}
 use Rattle.path_flush.proofs.FlushTaking.{of_table}
-use Rattle.path_flush.proofs.FlushWaits.{waits_none}
-use Rattle.path_flush.proofs.SwitchGoes.{
-  free_before,
-  kept_both,
-  newest_same,
-  oldest_same,
-  on_none,
-  on_some,
-  quiet_round,
-  round_kept,
-  round_none,
-  settled_quiet,
-  stage_same,
-  then_quiet,
-}
-use Rattle.path_flush.proofs.StepsOpen.{none_opened, opens_both, round_opens}
+use Rattle.path_flush.proofs.SwitchGoes.{kept_both, newest_same, oldest_same, round_kept}
+use Rattle.path_flush.proofs.SwitchGoes.{round_none}
+use Rattle.path_flush.proofs.StepsOpen.{opens_both, round_opens}
 use Rattle.path_flush.proofs.flushing.flush_newest.Goals as goal
 
 pub take_sync_beside-member-requires-clause-holds :
@@ -45,111 +29,62 @@ switch_table-member-requires-clause-turn g c = let t = c.args.table.0 in
       F.2,
     )
 
-pub leave_both-requires-clause-through : goal.leave_both-requires-clause-through
-leave_both-requires-clause-through g c = let t = c.args.table.0 in
-    let T = c.take_sync_beside-member in let W = c.switch_table-member in
-    let z = T.result.number in let v = c.args.member.seat.me.0 in let u = T.result.seat.me.0 in
-    let x = W.result.0.seat.me.0 in
-    let N = on_none W.result.1 (SwitchedNone z t u x)
-    (λ key. SwitchedTo z t c.args.newest key.0 u x) c.in-None.is W.ensures.switched in
-    let settled = stage_same t v.part u.part (T.ensures.tables t) ∙ c.requires.settled in
-    inl (inl (
-      stage_same t u.part x.part (N.steps.tables t (settled_quiet t u.part settled)) ∙ settled,
-      λ q has. absurd (none-some q (sym (ap (λ (h : Hands). h.reading) N.hands
-          ∙ (T.ensures.steps.reading ∙ c.requires.holds.unread)) ∙ has)),
-    ))
-
-pub returns-in-None-clause-flushes : goal.returns-in-None-clause-flushes
-returns-in-None-clause-flushes g c = let t = c.args.table.0 in
-    let T = c.take_sync_beside-member in let W = c.switch_table-member in
-    let w = c.args.member.number in let z = T.result.number in let y = W.result.0.number in
-    let v = c.args.member.seat.me.0 in let u = T.result.seat.me.0 in
-    let x = W.result.0.seat.me.0 in let after = c.leave_both.result.member.seat.me.0 in
-    let N = on_none W.result.1 (SwitchedNone z t u x)
-    (λ key. SwitchedTo z t c.args.newest key.0 u x) c.in-None.is W.ensures.switched in
-    let first = T.ensures.same.1 in let second = W.ensures.same.1 ∙ first in
-    let L = c.leave_both.ensures.steps in
-    let Q = then_quiet w y v x after second (then_quiet w z v u x first
-    (quiet_round w [] v u T.ensures.steps) (quiet_round z [] u x N.steps)) L in
-    let low = c.requires.turn.2 in
-    λ k b q same found. let A = then_quiet k w b v after same q Q in record {
-      steps = A.made;
-      opened = let none = none_opened t A.made.steps A.none in omega (arith, none);
-      alone = alone_none t A.made.steps A.none;
-      list = same_list k b after A.made;
-      is = (
-        N.last,
-        N.all,
-        (
-          N.all,
-          A.none,
-          found_after (Current Write) N.last Q.made.steps q.made.steps
-              (found_before (Current Write) N.last L.made.steps
-              (N.steps.steps ++ T.ensures.steps.steps)
-              (found_after (Current Write) N.last N.steps.steps T.ensures.steps.steps N.found)),
-          free_before t Q.made.steps q.made.steps (record {
-            memtable = c.args.newest;
-            next = omega (arith, low);
-            newest = found.0;
-            least = found.1;
-          }),
-        ),
-        waits_none k t A.made.steps A.none,
-      );
-    }
+pub switch_table-member-requires-clause-numbers : goal.switch_table-member-requires-clause-numbers
+switch_table-member-requires-clause-numbers g c = let w = c.args.member.number in
+    let T = c.take_sync_beside-member.ensures.steps in
+    let few = round_issued w [] _ _ T in let low = c.requires.numbers.1 in
+    (paid_round w _ _ T c.requires.numbers.0, omega (arith, few, low))
 
 pub retire_memtable-member-requires-clause-stage : goal.retire_memtable-member-requires-clause-stage
-retire_memtable-member-requires-clause-stage g c = let t = c.args.table.0 in
-    let T = c.take_sync_beside-member in let W = c.switch_table-member in
-    let z = T.result.number in let u = T.result.seat.me.0 in let x = W.result.0.seat.me.0 in
-    let S = on_some W.result.1 c.in-Some._set (SwitchedNone z t u x)
-    (λ k. SwitchedTo z t c.args.newest k.0 u x) c.in-Some.is W.ensures.switched in
-    inl (S.drained.group, S.drained.stage, inl S.drained.past)
+retire_memtable-member-requires-clause-stage g c =
+    let D = c.switch_table-member.ensures.switched.drained in
+    inl (D.group, D.stage, inl D.past)
 
 pub retire_memtable-member-requires-clause-oldest :
     goal.retire_memtable-member-requires-clause-oldest
-retire_memtable-member-requires-clause-oldest g c = let t = c.args.table.0 in
-    let T = c.take_sync_beside-member in let W = c.switch_table-member in
-    let z = T.result.number in let u = T.result.seat.me.0 in let x = W.result.0.seat.me.0 in
-    (on_some W.result.1 c.in-Some._set (SwitchedNone z t u x)
-    (λ k. SwitchedTo z t c.args.newest k.0 u x) c.in-Some.is W.ensures.switched).drained.oldest
+retire_memtable-member-requires-clause-oldest g c =
+    c.switch_table-member.ensures.switched.drained.oldest
 
 pub retire_memtable-member-requires-clause-unread :
     goal.retire_memtable-member-requires-clause-unread
-retire_memtable-member-requires-clause-unread g c = let t = c.args.table.0 in
-    let T = c.take_sync_beside-member in let W = c.switch_table-member in
-    let z = T.result.number in let u = T.result.seat.me.0 in let x = W.result.0.seat.me.0 in
-    let S = on_some W.result.1 c.in-Some._set (SwitchedNone z t u x)
-    (λ k. SwitchedTo z t c.args.newest k.0 u x) c.in-Some.is W.ensures.switched in
-    ap (λ (h : Hands). h.reading) S.hands
-    ∙ (T.ensures.steps.reading ∙ c.requires.holds.unread)
+retire_memtable-member-requires-clause-unread g c =
+    ap (λ (h : Hands). h.reading) c.switch_table-member.ensures.switched.hands
+    ∙ (c.take_sync_beside-member.ensures.steps.reading ∙ c.requires.holds.unread)
+
+pub retire_memtable-member-requires-clause-spends :
+    goal.retire_memtable-member-requires-clause-spends
+retire_memtable-member-requires-clause-spends g c = let T = c.take_sync_beside-member in
+    let first = round_issued c.args.member.number [] _ _ T.ensures.steps in
+    let then = issued_by T.result.number _ _ c.switch_table-member.ensures.switched.made in
+    let low = c.requires.numbers.1 in omega (arith, first, then, low)
 
 pub end_flush-requires-clause-barred : goal.end_flush-requires-clause-barred
-end_flush-requires-clause-barred g c = let t = c.args.table.0 in
-    let T = c.take_sync_beside-member in let W = c.switch_table-member in
-    let z = T.result.number in let u = T.result.seat.me.0 in let x = W.result.0.seat.me.0 in
-    let S = on_some W.result.1 c.in-Some._set (SwitchedNone z t u x)
-    (λ k. SwitchedTo z t c.args.newest k.0 u x) c.in-Some.is W.ensures.switched in inr (
+end_flush-requires-clause-barred g c = let D = c.switch_table-member.ensures.switched.drained in
+    inr (
       c.args.newest,
-      S.drained.group,
-      c.retire_memtable-member.ensures.retired.steps.stage ∙ S.drained.stage,
+      D.group,
+      c.retire_memtable-member.ensures.retired.steps.stage ∙ D.stage,
     )
 
-pub returns-in-Some-clause-had : goal.returns-in-Some-clause-had
-returns-in-Some-clause-had g c = let M = c.retire_memtable-member in
+pub end_flush-requires-clause-paid : goal.end_flush-requires-clause-paid
+end_flush-requires-clause-paid g c = let W = c.switch_table-member in
+    paid_on W.result.0.number _ _ c.retire_memtable-member.ensures.retired.steps.made
+    W.ensures.switched.paid
+
+pub returns-clause-had : goal.returns-clause-had
+returns-clause-had g c = let M = c.retire_memtable-member in
     got_turn _ c.args.table.0 c.args.newest _ _ M.result.1 M.ensures.retired
 
-pub returns-in-Some-clause-flushes : goal.returns-in-Some-clause-flushes
-returns-in-Some-clause-flushes g c = let t = c.args.table.0 in let m = c.args.newest in
+pub returns-clause-flushes : goal.returns-clause-flushes
+returns-clause-flushes g c = let t = c.args.table.0 in let m = c.args.newest in
     let T = c.take_sync_beside-member in let W = c.switch_table-member in
     let M = c.retire_memtable-member in let L = c.end_flush in
     let w = c.args.member.number in let z = T.result.number in let y = W.result.0.number in
     let r = M.result.0.number in
     let v = c.args.member.seat.me.0 in let u = T.result.seat.me.0 in
     let x = W.result.0.seat.me.0 in let e = M.result.0.seat.me.0 in
-    let after = L.result.member.seat.me.0 in let key = c.in-Some._set.0 in
-    let S = on_some W.result.1 c.in-Some._set (SwitchedNone z t u x)
-    (λ k. SwitchedTo z t m k.0 u x) c.in-Some.is W.ensures.switched in
+    let after = L.result.member.seat.me.0 in let key = W.result.1.0 in
+    let S = W.ensures.switched in
     let first = T.ensures.same.1 in let second = W.ensures.same.1 ∙ first in
     let A = next w z v u x first (of_round w [] v u T.ensures.steps) S.made in
     let F = final_before w t m key S.made.steps T.ensures.steps.steps

@@ -1,5 +1,6 @@
-use Rattle.std.proofs.Common.{ap, ◌∙◌, arith}
+use Rattle.std.proofs.Common.{◌≤◌, ap, sym, ◌∙◌, subst, arith}
 use Rattle.path_rule.specs.declared.view.View.{View}
+use Rattle.path_rule.specs.Issued.{issued_in, opened_in}
 use Rattle.path_flush.proofs.FlushHeld.{flush_given, flush_may}
 use Rattle.path_flush.proofs.giving.give_flush_turn.Goals as goal
 
@@ -18,4 +19,6 @@ invariant_of-result g c = let m = c.args.member in let d = c.give_flush.ensures 
       free = flush_given c.args.table m c.give_flush.new.member (omega (arith, few, there, of)) H
           d.step d.others;
       bare = d.same.2 ∙ H.bare;
+      paid = subst (λ (v : View). opened_in v.trail ≤ issued_in v.trail) (sym d.step.view)
+          c.requires.paid;
     }

@@ -1,5 +1,6 @@
 use Rattle.std.proofs.Common.{refl, ◌∙◌}
 use Rattle.path_flush.proofs.FilingGoes.{then_unswitched}
+use Rattle.path_flush.proofs.FlushPays.{paid_on}
 use Rattle.path_flush.proofs.FlushReadSteps.{then_read}
 use Rattle.path_flush.proofs.SwitchGoes.{past_read, retires_behind}
 use Rattle.path_flush.proofs.switching.settle.Goals as goal
@@ -44,3 +45,15 @@ returns-else-empty-clause-steps g c = let S = c.start_read-member.ensures in
     let R = then_read w _ c.args.table.0 _ _ _ S.same.0.1 S.steps B.steps in
     then_unswitched w _ _ _ _ (B.same.0.1 ∙ S.same.0.1) (record { made = R.made; none = R.none })
     c.leave_filled.ensures.steps
+
+pub leave_empty-requires-clause-paid : goal.leave_empty-requires-clause-paid
+leave_empty-requires-clause-paid g c = let S = c.start_read-member.ensures in
+    let B = c.read_boxes-member.ensures in let w = c.args.member.number in
+    let R = then_read w _ c.args.table.0 _ _ _ S.same.0.1 S.steps B.steps in
+    paid_on w _ _ (record { made = R.made; none = R.none }) c.requires.paid
+
+pub leave_filled-requires-clause-paid : goal.leave_filled-requires-clause-paid
+leave_filled-requires-clause-paid g c = let S = c.start_read-member.ensures in
+    let B = c.read_boxes-member.ensures in let w = c.args.member.number in
+    let R = then_read w _ c.args.table.0 _ _ _ S.same.0.1 S.steps B.steps in
+    paid_on w _ _ (record { made = R.made; none = R.none }) c.requires.paid

@@ -42,7 +42,7 @@ note_progress-requires-clause-desk g c =
 
 pub returns-in-Claimed-clause-steps : goal.returns-in-Claimed-clause-steps
 returns-in-Claimed-clause-steps g c = let I = c.loop.invariant in let w = c.args.member.number in
-    subst (λ (u : View). RoundSteps w [] c.args.member.seat.me.0 u)
+    subst (λ (u : View). RoundSteps w 0 [] c.args.member.seat.me.0 u)
     (sym c.note_progress.ensures.same.1)
     (next w _ [] [] _ _ _ I.number I.steps c.claim_once.ensures.steps)
 

@@ -12,7 +12,7 @@ invariant-loop g l = record {
   table : l.member.seat.table_id ≡ l.initial.member.seat.table_id;
   number : l.member.number ≡ l.initial.member.number;
   boxes : l.member.seat.me.1 ≡ l.initial.member.seat.me.1;
-  steps : RoundSteps l.initial.member.number [] l.initial.member.seat.me.0 l.member.seat.me.0;
+  steps : RoundSteps l.initial.member.number 0 [] l.initial.member.seat.me.0 l.member.seat.me.0;
   give : MayGive l.member.seat.me.0;
   current : KeepsCurrent Append l.initial.member.seat.me.0.part l.member.seat.me.0.part;
   runs : FoundRunning l.member.seat.me.0.part;

@@ -30,7 +30,7 @@ pub returns-then-now-gt0-clause-answer : goal.returns-then-now-gt0-clause-answer
 returns-then-now-gt0-clause-answer g c = let L = c.look_stopped-now in
     let w = c.args.member.number in let opened = c.args.path.now.size.at_open in
     let v = c.args.member.seat.me.0 in let u = L.new.member.seat.me.0 in
-    subst (λ (z : PathSize). Answers w opened v (answer.Stopped z.at_open L.result) u)
+    subst (λ (z : PathSize). Answers w 0 opened v (answer.Stopped z.at_open L.result) u)
     (sym c.size-at_open.ensures)
     (halted_answers w opened L.result v u (L.ensures.risen c.if-now-gt0.true) L.ensures.step)
 
@@ -58,9 +58,9 @@ returns-clause-answer g c =
     let opened = c.args.path.now.size.at_open in let v = c.args.member.seat.me.0 in
     let first = one w (Look w (CursorWord Stopped)) L.result v L.new.member.seat.me.0 refl
     L.ensures.step in
-    subst (λ (a : SyncAnswer). Answers w opened v a E.result.0.seat.me.0) (sym c.said_by.ensures)
+    subst (λ (a : SyncAnswer). Answers w 0 opened v a E.result.0.seat.me.0) (sym c.said_by.ensures)
     (answers_after w opened _ v L.new.member.seat.me.0 _ first
-    (subst (λ k. Answers k opened L.new.member.seat.me.0 (said_by E.result.1)
+    (subst (λ k. Answers k 0 opened L.new.member.seat.me.0 (said_by E.result.1)
     E.result.0.seat.me.0) L.ensures.same.1
     (ends_answers L.new.member.number opened c.args.upto L.new.member.seat.me.0 _ E.result.1
     (subst (λ n. TellsFaults n E.result.1)

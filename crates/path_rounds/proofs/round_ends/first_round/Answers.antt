@@ -23,7 +23,7 @@ pub returns-then-now-gt0-clause-answer : goal.returns-then-now-gt0-clause-answer
 returns-then-now-gt0-clause-answer g c = let L = c.look_stopped-now in
     let w = c.args.member.number in let opened = c.args.path.now.size.at_open in
     let v = c.args.member.seat.me.0 in let u = L.new.member.seat.me.0 in
-    subst (λ (z : PathSize). Answers w opened v (answer.Stopped z.at_open L.result) u)
+    subst (λ (z : PathSize). Answers w 0 opened v (answer.Stopped z.at_open L.result) u)
     (sym c.size-at_open.ensures)
     (halted_answers w opened L.result v u (L.ensures.risen c.if-now-gt0.true) L.ensures.step)
 
@@ -40,7 +40,7 @@ returns-clause-answer g c =
     let opened = c.args.path.now.size.at_open in
     let first = one w (Look w (CursorWord Stopped)) L.result v u refl L.ensures.step in
     answers_after w opened _ v u _ first
-    (subst (λ k. Answers k opened u (Done S.result) S.new.member.seat.me.0) L.ensures.same.1
+    (subst (λ k. Answers k 0 opened u (Done S.result) S.new.member.seat.me.0) L.ensures.same.1
     (found_answers L.new.member.number opened 0 S.result u _ (omega arith)
     (still_wrote w 0 [] v u first c.requires.wrote) S.ensures.step))
 

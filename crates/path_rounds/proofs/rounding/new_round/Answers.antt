@@ -3,21 +3,12 @@ use Rattle.op_core.specs.declared.count.Order.TheVariants.{Append}
 use Rattle.path_core.specs.declared.event.Cursor.TheVariants.{Stopped}
 use Rattle.path_core.specs.declared.event.Event.TheVariants.{Look}
 use Rattle.path_core.specs.declared.event.Place.TheVariants.{Current, CursorWord, Log}
-use Rattle.path_core.specs.declared.seat.LastMarker.{LastMarker}
 use Rattle.path_rule.specs.declared.view.Hands.{Hands}
-use Rattle.path_rule.specs.declared.view.PathSize.{PathSize}
-use Rattle.path_rule.specs.declared.view.Progress.{Progress}
 use Rattle.path_rule.specs.declared.view.View.{View}
-use Rattle.path_rule.specs.Calls.{Did}
-use Rattle.path_rule.specs.SyncAnswers.{Answers, IsFullBy, MayAnswer}
-use Rattle.path_rule.proofs.seats.Answering.{answers_after, full_answers, halted_may, runs_on}
-use Rattle.path_rule.proofs.seats.Reaching.{
-  found_on,
-  full_reaches,
-  halted_reaches,
-  reaches_less,
-}
-use Rattle.path_rule.proofs.seats.RoundsGo.{one, next, from}
+use Rattle.path_rule.specs.SyncAnswers.{Answers, MayAnswer}
+use Rattle.path_rule.proofs.seats.Answering.{answers_after, halted_may, may_more}
+use Rattle.path_rule.proofs.seats.Reaching.{found_on, halted_reaches, reaches_less}
+use Rattle.path_rule.proofs.seats.RoundsGo.{from, issued_by, next, one}
 use Rattle.path_rule.proofs.seats.Staying.{none_is}
 use Rattle.path_rounds.specs.Marks.{MarksNext}
 use Rattle.path_rounds.proofs.rounding.new_round.Goals as goal
@@ -27,65 +18,33 @@ returns-then-is_some-clause-answer g c =
     let P = c.progress-member in let H = c.look_halted-halted in
     let opened = c.args.path.now.size.at_open in let w = c.args.member.number in
     let after = H.new.member.seat.me.0 in let L = H.ensures.looked in
-    subst (λ (v : View). MayAnswer w opened v H.result after) P.ensures.same.1
-    (subst (λ z. MayAnswer z opened P.result.0.seat.me.0 H.result after) P.ensures.same.0.1
-    (halted_may P.result.0.number opened L.0 H.result _ _ L.1 L.2))
+    subst (λ (v : View). MayAnswer w 1 opened v H.result after) P.ensures.same.1
+    (subst (λ z. MayAnswer z 1 opened P.result.0.seat.me.0 H.result after) P.ensures.same.0.1
+    (may_more 0 1 P.result.0.number opened H.result _ _ (omega arith)
+    (halted_may P.result.0.number opened L.0 H.result _ _ L.1 L.2)))
 
 pub returns-then-is_some-clause-reaches : goal.returns-then-is_some-clause-reaches
 returns-then-is_some-clause-reaches g c = let H = c.look_halted-halted in
     λ key F. halted_reaches c.args.path.now.size.capacity key c.args.path.now.size.at_open
     H.ensures.looked.0 H.result H.ensures.looked.2
 
-pub returns-then-current-eq-LAST_GROUP-clause-answer :
-    goal.returns-then-current-eq-LAST_GROUP-clause-answer
-returns-then-current-eq-LAST_GROUP-clause-answer g c =
-    let P = c.progress-member in let H = c.look_halted-halted in
-    let S = c.seek_current-current in let F = c.look_full-answer in
-    let opened = c.args.path.now.size.at_open in let w = c.args.member.number in
-    let after = F.new.member.seat.me.0 in let L = F.ensures.looked in
-    let z = P.result.0.number in let v = P.result.0.seat.me.0 in
-    let s = H.new.member.seat.me.0 in let u = S.new.member.seat.me.0 in
-    let none = runs_on opened H.ensures.looked.0 H.result H.ensures.looked.2
-    (sym c.is_some.ensures ∙ c.if-is_some.false) in
-    subst (λ (x : View). MayAnswer w opened x F.result after) P.ensures.same.1
-    (subst (λ k. MayAnswer k opened v F.result after) P.ensures.same.0.1
-    (full_answers z opened S.result L.0 v s u after
-    (let is = c.if-current-eq-LAST_GROUP.true in omega arith)
-    (subst (λ n. Did v z (Look z (CursorWord Stopped)) n s) none H.ensures.looked.1)
-    (subst (λ k. Did s k (Look k (Current Append)) S.result u) H.ensures.same.1 S.ensures.step)
-    (subst (λ k. Did u k (Look k Log) L.0 after) (S.ensures.same.1 ∙ H.ensures.same.1) L.1)
-    F.result
-    (subst (λ (q : ℕ × Option LastMarker). IsFullBy q.0 q.1 L.0 F.result) (λ i. (
-      sym (ap (λ (x : View). x.size.capacity) P.ensures.same.1
-          ∙ ap (λ (x : PathSize). x.capacity) c.requires.table.1) i,
-      (ap (λ (p : Progress). p.marker) P.ensures.found
-          ∙ sym (ap (λ (x : View). x.hands.progress.marker) P.ensures.same.1)) i,
-    )) L.2)))
-
-pub returns-then-current-eq-LAST_GROUP-clause-reaches :
-    goal.returns-then-current-eq-LAST_GROUP-clause-reaches
-returns-then-current-eq-LAST_GROUP-clause-reaches g c = let F = c.look_full-answer in
-    let capacity = c.args.path.now.size.capacity in
-    λ key _. full_reaches capacity key F.ensures.looked.0 capacity
-    c.progress-member.result.1.marker F.result
-    F.ensures.looked.2
-
-pub returns-then-current-eq-LAST_GROUP-clause-give :
-    goal.returns-then-current-eq-LAST_GROUP-clause-give
-returns-then-current-eq-LAST_GROUP-clause-give g c =
-    let H = c.look_halted-halted in let S = c.seek_current-current in
-    c.look_full-answer.ensures.give (record {
-      holds = S.ensures.turn.0;
-      unfiled = (one _ (Look _ (Current Append)) S.result _ _ refl S.ensures.step).unfiled
-          H.ensures.give.unfiled;
-    })
-
 pub bar_round-member-requires-clause-current : goal.bar_round-member-requires-clause-current
 bar_round-member-requires-clause-current g c = let S = c.seek_current-current in (
   c.claim_next-member.ensures.current S.result S.ensures.turn.1,
-  let below = S.ensures.below in let other = c.if-current-eq-LAST_GROUP.false in
-      omega (arith, below, other),
+  S.ensures.below,
 )
+
+pub bar_round-member-requires-clause-spends : goal.bar_round-member-requires-clause-spends
+bar_round-member-requires-clause-spends g c =
+    let P = c.progress-member in let H = c.look_halted-halted in
+    let S = c.seek_current-current in let w = c.args.member.number in
+    let h = H.ensures.same.1 ∙ P.ensures.same.0.1 in
+    let few = issued_by w [] _ _ (next w _ [] [] _ _ _ (S.ensures.same.1 ∙ h)
+    (next w _ [] [] _ _ _ h
+    (from w P.result.0.number [] _ _ _ P.ensures.same.0.1 P.ensures.same.1
+    (one _ (Look _ (CursorWord Stopped)) H.ensures.looked.0 _ _ refl H.ensures.looked.1))
+    (one _ (Look _ (Current Append)) S.result _ _ refl S.ensures.step))
+    c.claim_next-member.ensures.steps) in let low = c.requires.spends in omega (arith, few, low)
 
 pub returns-in_default-clause-answer : goal.returns-in_default-clause-answer
 returns-in_default-clause-answer g c =
@@ -110,7 +69,7 @@ returns-clause-answer g c =
     (from w P.result.0.number [] _ _ _ P.ensures.same.0.1 P.ensures.same.1
     (one _ (Look _ (CursorWord Stopped)) H.ensures.looked.0 _ _ refl H.ensures.looked.1))
     (one _ (Look _ (Current Append)) S.result _ _ refl S.ensures.step)) C.ensures.steps)
-    (subst (λ k. Answers k opened C.result.0.seat.me.0 B.result.1 B.result.0.seat.me.0)
+    (subst (λ k. Answers k 1 opened C.result.0.seat.me.0 B.result.1 B.result.0.seat.me.0)
     (C.ensures.same.1 ∙ number) B.ensures.answer)
 
 pub returns-clause-reaches : goal.returns-clause-reaches

@@ -40,7 +40,7 @@ returns-then-swept-size-clause-same g c = let N = c.note_progress.ensures.same i
 
 pub returns-then-swept-size-clause-steps : goal.returns-then-swept-size-clause-steps
 returns-then-swept-size-clause-steps g c =
-    subst (λ (u : View). RoundSteps c.args.member.number [] c.args.member.seat.me.0 u)
+    subst (λ (u : View). RoundSteps c.args.member.number 0 [] c.args.member.seat.me.0 u)
     (sym c.note_progress.ensures.same.1) c.loop.invariant.steps
 
 pub returns-then-swept-size-clause-turn : goal.returns-then-swept-size-clause-turn

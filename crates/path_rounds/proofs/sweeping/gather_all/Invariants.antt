@@ -15,7 +15,7 @@ invariant-loop g l = let h = l.initial.member.seat.me.0.hands in record {
   finite : (goal.iterator-loop g).is_finite l.iterator';
   table : l.member.seat.table_id ≡ l.initial.member.seat.table_id;
   number : l.member.number ≡ l.initial.member.number;
-  steps : RoundSteps l.initial.member.number [] l.initial.member.seat.me.0 l.member.seat.me.0;
+  steps : RoundSteps l.initial.member.number 0 [] l.initial.member.seat.me.0 l.member.seat.me.0;
   holds : Holds Rest l.member.seat.me.0;
   saw : TurnSaw Append l.member.seat.me.0.part l.current;
   swept : SweptTo l.path.size.seats l.swept h l.member.seat.me.0.hands;

@@ -1,21 +1,5 @@
-use Rattle.std.proofs.Common.{
-  ◌≡◌,
-  ℕ,
-  suc,
-  ◌+◌,
-  ◌*◌,
-  ◌%◌,
-  [],
-  ◌∷◌,
-  ◌++◌,
-  Some,
-  refl,
-  sym,
-  ap,
-  ◌∙◌,
-  subst,
-  arith,
-}
+use Rattle.std.proofs.Common.{◌≡◌, ℕ, suc, ◌+◌, ◌*◌, ◌%◌, [], ◌∷◌, ◌++◌, Some, refl, sym, ap, ◌∙◌}
+use Rattle.std.proofs.Common.{subst, arith}
 use Rattle.op_core.specs.declared.count.Order.TheVariants.{Append}
 use Rattle.path_core.specs.declared.event.Event.TheVariants.{Look}
 use Rattle.path_core.specs.declared.event.Place.TheVariants.{Oldest}
@@ -80,7 +64,7 @@ returns-clause-steps g c =
     let d = (c.gather.ensures.hit c.if-gather-current.false).0.1 in
     next w K.result.number [] [] v K.result.seat.me.0 G.new.member.seat.me.0
     (K.ensures.same.0.1 ∙ c.gather.ensures.same.1)
-    (subst (λ (u : View). RoundSteps w [] v u) (sym K.ensures.same.1)
+    (subst (λ (u : View). RoundSteps w 0 [] v u) (sym K.ensures.same.1)
     (one_as w (Look w (Oldest Append)) c.gather.result _ v c.gather.new.member.seat.me.0 refl d
     refl))
     (one_as K.result.number (Look K.result.number (Oldest Append)) G.result _ _ _ refl

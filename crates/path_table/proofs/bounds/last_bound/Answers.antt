@@ -1,4 +1,4 @@
-use Rattle.std.proofs.Common.{◌+◌, ◌*◌, ◌-◌, arith}
+use Rattle.std.proofs.Common.{◌+◌, ◌*◌, ◌%◌, ◌-◌, arith}
 use Rattle.std.specs.Slots.{slots_items}
 use Rattle.path_table.proofs.seats.LastBounds.{at_first, at_later, stands}
 use Rattle.path_table.proofs.bounds.last_bound.Goals as goal
@@ -36,5 +36,5 @@ returns g c = let words = slots_items c.args.closed.now.words in
     at_later words c.args.table c.word-newest.result c.word-word.result
     (stands words (8 + 4 * c.args.table) c.word-newest.result c.word-newest.ensures)
     (λ e. omega (arith, c.if-newest-eq0.false, e))
-    (stands words (131144 + 16 * (c.word-newest.result - 1) + c.args.table) c.word-word.result
+    (stands words (136 + 16 * ((c.word-newest.result - 1) % 4) + c.args.table) c.word-word.result
     c.word-word.ensures)

@@ -9,3 +9,23 @@ commit-seat-requires-clause-prepared g c = (
   c.in_ok-path.ensures.sized.0,
   c.in_ok-path.ensures.sized.1,
 )
+
+pub commit-seat-requires-2-clause-prepared : goal.commit-seat-requires-2-clause-prepared
+commit-seat-requires-2-clause-prepared g c = (
+  c.in-Some.sizes,
+  2,
+  c.in_ok-two.ensures.0,
+  c.in_ok-two.ensures.1,
+  c.in_ok-path.ensures.sized.0,
+  c.in_ok-path.ensures.sized.1,
+)
+
+pub commit-seat-requires-3-clause-prepared : goal.commit-seat-requires-3-clause-prepared
+commit-seat-requires-3-clause-prepared g c = (
+  c.in-Some.sizes,
+  3,
+  c.in_ok-three.ensures.0,
+  c.in_ok-three.ensures.1,
+  c.in_ok-path.ensures.sized.0,
+  c.in_ok-path.ensures.sized.1,
+)

@@ -9,3 +9,23 @@ commit-zero-requires-clause-prepared g c = (
   c.in_ok-path.ensures.sized.0,
   c.in_ok-path.ensures.sized.1,
 )
+
+pub commit-one-requires-clause-prepared : goal.commit-one-requires-clause-prepared
+commit-one-requires-clause-prepared g c = (
+  c.in-Some.sizes,
+  2,
+  c.in_ok-second.ensures.0,
+  c.in_ok-second.ensures.1,
+  c.in_ok-path.ensures.sized.0,
+  c.in_ok-path.ensures.sized.1,
+)
+
+pub commit-zero-requires-2-clause-prepared : goal.commit-zero-requires-2-clause-prepared
+commit-zero-requires-2-clause-prepared g c = (
+  c.in-Some.sizes,
+  3,
+  c.in_ok-third.ensures.0,
+  c.in_ok-third.ensures.1,
+  c.in_ok-path.ensures.sized.0,
+  c.in_ok-path.ensures.sized.1,
+)

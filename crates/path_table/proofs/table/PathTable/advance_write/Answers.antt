@@ -1,13 +1,14 @@
 use Rattle.std.proofs.Common.{refl, sym, ap, ◌∙◌, subst, arith}
 use Rattle.op_core.specs.declared.count.Order.TheVariants.{Write}
 use Rattle.path_core.specs.declared.seat.Issue.TheVariants.{Rest}
-use Rattle.path_core.specs.Parts.{stage_of}
+use Rattle.path_core.specs.Parts.{marker_of, stage_of}
 use Rattle.path_rule.specs.declared.view.View.{View}
 use Rattle.path_rule.specs.Calls.{Holds}
-use Rattle.path_rule.specs.Turns.{TurnSaw}
+use Rattle.path_rule.specs.Turns.{FoundRunning, TurnSaw}
 use Rattle.path_rule.proofs.moves.WriteBarriers.{advances_at}
 use Rattle.path_rule.proofs.seats.HolderIssues as know
 use Rattle.path_rule.specs.Lasts.{beside_of, shows_of}
+use Rattle.path_rule.specs.Issued.{issued_in}
 use Rattle.path_table.proofs.table.PathTable.advance_write.Goals as goal
 
 pub store-requires : goal.store-requires
@@ -25,7 +26,10 @@ store-requires g c = let t = c.args.self.now in let m = c.args.member.now in
 
 pub invariant_of-member : goal.invariant_of-member
 invariant_of-member g c = let m = c.args.member.now in let q = c.store.ensures.2 m.number m.role in
-    let d = q in record { role = ap (λ (v : View). v.role) d.0.0 ∙ m.role }
+    let d = q in record {
+      role = ap (λ (v : View). v.role) d.0.0 ∙ m.role;
+      counted = m.counted ∙ sym (ap (λ (v : View). issued_in v.trail) d.0.0);
+    }
 
 pub returns-clause-same : goal.returns-clause-same
 returns-clause-same g c = let m = c.args.member.now in let q = c.store.ensures.2 m.number m.role in
@@ -53,3 +57,15 @@ returns-clause-stages g c = let m = c.args.member.now in let q = c.store.ensures
     in
     let d = q in
     λ t. ap (λ (v : View). stage_of v.part t) d.0.0
+
+pub returns-clause-marker : goal.returns-clause-marker
+returns-clause-marker g c = let m = c.args.member.now in
+    let q = c.store.ensures.2 m.number m.role in
+    ap (λ (v : View). marker_of v.part) q.0.0
+    ∙ know.advanced_marker m.seat.me.0 m.number c.args.group Write c.args.group
+
+pub returns-clause-runs : goal.returns-clause-runs
+returns-clause-runs g c = let m = c.args.member.now in
+    let q = c.store.ensures.2 m.number m.role in
+    λ runs. subst (λ (z : View). FoundRunning z.part) (sym q.0.0)
+    (know.advanced_runs m.seat.me.0 m.number c.args.group Write c.args.group runs)

@@ -1,9 +1,10 @@
-use Rattle.std.proofs.Common.{refl, ap, ◌∙◌, arith}
+use Rattle.std.proofs.Common.{sym, refl, ap, ◌∙◌, arith}
 use mathlib.Core.Logic.{dite}
 use native.Mathlib.Decide.{ℕ_discrete}
 use Rattle.path_rule.specs.declared.view.View.{View}
 use Rattle.path_rule.proofs.moves.MarkerSteps.{claims_marker}
 use Rattle.path_rule.specs.Lasts.{beside_of, shows_of}
+use Rattle.path_rule.specs.Issued.{issued_in}
 use Rattle.path_table.proofs.table.PathTable.claim_marker.Goals as goal
 
 pub compare_exchange-requires : goal.compare_exchange-requires
@@ -22,8 +23,14 @@ pub invariant_of-member : goal.invariant_of-member
 invariant_of-member g c = let m = c.args.member.now in
     let e = c.compare_exchange.ensures.2 m.number m.role in
     dite (ℕ_discrete c.compare_exchange.result c.args.from)
-    (λ hit. let d = e.0 hit in record { role = ap (λ (v : View). v.role) d.0.0 ∙ m.role })
-    (λ miss. let d = e.1 miss in record { role = ap (λ (v : View). v.role) d.0.0 ∙ m.role })
+    (λ hit. let d = e.0 hit in record {
+      role = ap (λ (v : View). v.role) d.0.0 ∙ m.role;
+      counted = m.counted ∙ sym (ap (λ (v : View). issued_in v.trail) d.0.0);
+    })
+    (λ miss. let d = e.1 miss in record {
+      role = ap (λ (v : View). v.role) d.0.0 ∙ m.role;
+      counted = m.counted ∙ sym (ap (λ (v : View). issued_in v.trail) d.0.0);
+    })
 
 pub returns-clause-same : goal.returns-clause-same
 returns-clause-same g c = let m = c.args.member.now in

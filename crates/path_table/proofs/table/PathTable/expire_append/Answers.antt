@@ -7,6 +7,7 @@ use Rattle.path_rule.specs.Turns.{TurnSaw}
 use Rattle.path_rule.proofs.moves.AppendBarriers.{expires}
 use Rattle.path_rule.proofs.seats.HolderIssues as know
 use Rattle.path_rule.specs.Lasts.{beside_of, shows_of}
+use Rattle.path_rule.specs.Issued.{issued_in}
 use Rattle.path_table.proofs.table.PathTable.expire_append.Goals as goal
 
 pub fetch_add-requires : goal.fetch_add-requires
@@ -19,32 +20,40 @@ fetch_add-requires g c = let t = c.args.self.now in let m = c.args.member.now in
       expires (shows_of g.K.Keeper.holds) o k t.table.shared.table_id.slots m.seat.id m.seat.me
           m.number m.role
           c.args.group c.args.current c.requires.turn.0.issue c.requires.turn.1 c.requires.turn.2
-          c.requires.turn.0.empty c.requires.turn.3,
+          c.requires.turn.0.empty,
     )
 
 pub invariant_of-member : goal.invariant_of-member
 invariant_of-member g c = let m = c.args.member.now in
-    let q = c.fetch_add.ensures.2 m.number c.args.group m.role c.requires.turn.3 refl in
-    record { role = ap (λ (v : View). v.role) q.0.0 ∙ m.role }
+    let q = c.fetch_add.ensures.2 m.number c.args.group c.args.current m.role c.requires.turn.1
+    c.requires.turn.2 in
+    record {
+      role = ap (λ (v : View). v.role) q.0.0 ∙ m.role;
+      counted = m.counted ∙ sym (ap (λ (v : View). issued_in v.trail) q.0.0);
+    }
 
 pub returns-clause-same : goal.returns-clause-same
 returns-clause-same g c = let m = c.args.member.now in
-    let q = c.fetch_add.ensures.2 m.number c.args.group m.role c.requires.turn.3 refl in
+    let q = c.fetch_add.ensures.2 m.number c.args.group c.args.current m.role c.requires.turn.1
+    c.requires.turn.2 in
     (c.fetch_add.ensures.0, refl, q.1, ap (λ (v : View). v.size) q.0.0)
 
 pub returns-clause-step : goal.returns-clause-step
 returns-clause-step g c = let m = c.args.member.now in
-    let q = c.fetch_add.ensures.2 m.number c.args.group m.role c.requires.turn.3 refl in
+    let q = c.fetch_add.ensures.2 m.number c.args.group c.args.current m.role c.requires.turn.1
+    c.requires.turn.2 in
     record { view = q.0.0; was = q.0.1 }
 
 pub returns-clause-hands : goal.returns-clause-hands
 returns-clause-hands g c = let m = c.args.member.now in
-    let q = c.fetch_add.ensures.2 m.number c.args.group m.role c.requires.turn.3 refl in
+    let q = c.fetch_add.ensures.2 m.number c.args.group c.args.current m.role c.requires.turn.1
+    c.requires.turn.2 in
     ap (λ (v : View). v.hands) q.0.0
 
 pub returns-clause-turn : goal.returns-clause-turn
 returns-clause-turn g c = let m = c.args.member.now in let v = m.seat.me.0 in
-    let q = c.fetch_add.ensures.2 m.number c.args.group m.role c.requires.turn.3 refl in
+    let q = c.fetch_add.ensures.2 m.number c.args.group c.args.current m.role c.requires.turn.1
+    c.requires.turn.2 in
     let e = sym q.0.0 in (
       subst (Holds Rest) e
           (know.expired_held v m.number c.fetch_add.result Append c.args.group c.requires.turn.0),

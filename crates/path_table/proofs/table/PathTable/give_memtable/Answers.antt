@@ -6,6 +6,7 @@ use Rattle.path_rule.specs.declared.view.View.{View}
 use Rattle.path_rule.specs.Boxes.{memtable_box}
 use Rattle.path_rule.specs.Lasts.{beside_of, shows_of}
 use Rattle.path_rule.proofs.moves.MemtableSteps.{gives_memtable}
+use Rattle.path_rule.specs.Issued.{issued_in}
 use Rattle.path_table.proofs.table.PathTable.give_memtable.Goals as goal
 
 pub load-requires : goal.load-requires
@@ -40,7 +41,10 @@ invariant_of-member g c = let m = c.args.member.now in let n = c.requires.note i
       Notes (m.seat.me.0.hands.held ++ n.0 ∷ []),
     ) ∷ rest m.seat.me.1)
     (sym c.requires.table.1) n.3) in
-    record { role = ap (λ (v : View). v.role) q.0.0 ∙ m.role }
+    record {
+      role = ap (λ (v : View). v.role) q.0.0 ∙ m.role;
+      counted = m.counted ∙ sym (ap (λ (v : View). issued_in v.trail) q.0.0);
+    }
 
 pub returns-clause-same : goal.returns-clause-same
 returns-clause-same g c = let m = c.args.member.now in let n = c.requires.note in

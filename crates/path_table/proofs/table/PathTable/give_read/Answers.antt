@@ -4,6 +4,7 @@ use Rattle.path_rule.specs.declared.view.PathSize.{PathSize}
 use Rattle.path_rule.specs.declared.view.View.{View}
 use Rattle.path_rule.specs.Lasts.{beside_of, shows_of}
 use Rattle.path_rule.proofs.moves.ReadSteps.{gives_read}
+use Rattle.path_rule.specs.Issued.{issued_in}
 use Rattle.path_table.proofs.table.PathTable.give_read.Goals as goal
 
 pub load-requires : goal.load-requires
@@ -25,7 +26,10 @@ pub invariant_of-member : goal.invariant_of-member
 invariant_of-member g c = let m = c.args.member.now in let q = c.requires.reads in
     let few = c.args.self.now.fits.few_tables in let there = c.requires.there in
     let d = c.load.ensures.2 m.number c.args.table q.0 m.role (omega arith) refl q.3 in
-    record { role = ap (λ (v : View). v.role) d.0.0 ∙ m.role }
+    record {
+      role = ap (λ (v : View). v.role) d.0.0 ∙ m.role;
+      counted = m.counted ∙ sym (ap (λ (v : View). issued_in v.trail) d.0.0);
+    }
 
 pub returns-clause-same : goal.returns-clause-same
 returns-clause-same g c = let m = c.args.member.now in let q = c.requires.reads in

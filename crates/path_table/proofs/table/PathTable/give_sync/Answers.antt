@@ -1,8 +1,9 @@
-use Rattle.std.proofs.Common.{refl, ap, ◌∙◌, arith}
+use Rattle.std.proofs.Common.{sym, refl, ap, ◌∙◌, arith}
 use Rattle.atomic_table.specs.Table.{rest}
 use Rattle.path_rule.specs.declared.view.View.{View}
 use Rattle.path_rule.proofs.moves.TurnSteps.{gives_sync}
 use Rattle.path_rule.specs.Lasts.{beside_of, shows_of}
+use Rattle.path_rule.specs.Issued.{issued_in}
 use Rattle.path_table.proofs.table.PathTable.give_sync.Goals as goal
 
 pub store-requires : goal.store-requires
@@ -19,7 +20,10 @@ store-requires g c = let t = c.args.self.now in let m = c.args.member.now in
 
 pub invariant_of-member : goal.invariant_of-member
 invariant_of-member g c = let m = c.args.member.now in let d = c.store.ensures.2 m.number m.role in
-    record { role = ap (λ (v : View). v.role) d.0.0 ∙ m.role }
+    record {
+      role = ap (λ (v : View). v.role) d.0.0 ∙ m.role;
+      counted = m.counted ∙ sym (ap (λ (v : View). issued_in v.trail) d.0.0);
+    }
 
 pub returns-clause-same : goal.returns-clause-same
 returns-clause-same g c = let m = c.args.member.now in let d = c.store.ensures.2 m.number m.role in

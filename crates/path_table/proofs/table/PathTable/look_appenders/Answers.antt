@@ -1,9 +1,10 @@
-use Rattle.std.proofs.Common.{refl, ap, ◌∙◌, arith}
+use Rattle.std.proofs.Common.{sym, refl, ap, ◌∙◌, arith}
 use Rattle.op_core.specs.declared.count.Order.TheVariants.{Append}
 use Rattle.path_core.specs.declared.event.Place.TheVariants.{Count}
 use Rattle.path_rule.specs.declared.view.View.{View}
 use Rattle.path_rule.proofs.moves.Looks.{looks}
 use Rattle.path_rule.specs.Lasts.{beside_of, shows_of}
+use Rattle.path_rule.specs.Issued.{issued_in}
 use Rattle.path_table.proofs.table.PathTable.look_appenders.Goals as goal
 
 pub load-requires : goal.load-requires
@@ -15,20 +16,23 @@ load-requires g c = let t = c.args.self.now in let m = c.args.member.now in
           omega arith,
       looks (shows_of g.K.Keeper.holds) o k t.table.shared.table_id.slots m.seat.id m.seat.me
           m.number
-          m.role (Count Append c.args.group) c.requires.group.0 c.requires.group.1,
+          m.role (Count Append c.args.group) tt c.requires.group.1,
     )
 
 pub invariant_of-member : goal.invariant_of-member
 invariant_of-member g c = let m = c.args.member.now in
-    let d = c.load.ensures.2 m.number (Count Append c.args.group) m.role c.requires.group.0 refl in
-    record { role = ap (λ (v : View). v.role) d.0.0.0 ∙ m.role }
+    let d = c.load.ensures.2 m.number (Count Append c.args.group) m.role tt tt refl in
+    record {
+      role = ap (λ (v : View). v.role) d.0.0.0 ∙ m.role;
+      counted = m.counted ∙ sym (ap (λ (v : View). issued_in v.trail) d.0.0.0);
+    }
 
 pub returns-clause-same : goal.returns-clause-same
 returns-clause-same g c = let m = c.args.member.now in
-    let d = c.load.ensures.2 m.number (Count Append c.args.group) m.role c.requires.group.0 refl in
+    let d = c.load.ensures.2 m.number (Count Append c.args.group) m.role tt tt refl in
     (c.load.ensures.0, refl, d.0.1)
 
 pub returns-clause-step : goal.returns-clause-step
 returns-clause-step g c = let m = c.args.member.now in
-    let d = c.load.ensures.2 m.number (Count Append c.args.group) m.role c.requires.group.0 refl in
+    let d = c.load.ensures.2 m.number (Count Append c.args.group) m.role tt tt refl in
     record { view = d.0.0.0; was = d.0.0.1 }

@@ -1,14 +1,18 @@
-use Rattle.std.proofs.Common.{◌<◌, ◌≤◌, Some, refl, sym, ap, ◌∙◌, subst, arith}
+use Rattle.std.proofs.Common.{ℕ, ◌<◌, ◌≤◌, Some, refl, sym, ap, ◌∙◌, subst, arith}
 use Rattle.std.specs.Option.{option_map}
 use Rattle.std.proofs.lemmas.Option.{same_Some}
+use Rattle.path_core.specs.declared.event.Cursor.TheVariants.{Synced}
+use Rattle.path_core.specs.declared.event.Place.TheVariants.{CursorWord}
 use Rattle.path_core.specs.declared.seat.SyncTurn.{SyncTurn}
 use Rattle.path_core.specs.Keys.{after}
 use Rattle.path_rule.specs.declared.view.FlushRead.{FlushRead}
 use Rattle.path_rule.specs.declared.view.PathSize.{PathSize}
 use Rattle.path_rule.specs.declared.view.View.{View}
 use Rattle.path_rule.specs.FilingTold.{SeesAll, TurnSynced}
+use Rattle.path_rule.specs.Finds.{Finds}
 use Rattle.path_rule.specs.Lasts.{beside_of, shows_of}
 use Rattle.path_rule.proofs.moves.FiledLooks.{looks_filed}
+use Rattle.path_rule.specs.Issued.{issued_in}
 use Rattle.path_table.proofs.table.PathTable.look_filed.Goals as goal
 
 pub load-requires : goal.load-requires
@@ -24,7 +28,10 @@ load-requires g c = let t = c.args.self.now in let m = c.args.member.now in
 
 pub invariant_of-member : goal.invariant_of-member
 invariant_of-member g c = let m = c.args.member.now in let d = c.load.ensures.2 m.number m.role in
-    record { role = ap (λ (v : View). v.role) d.0.0.0 ∙ m.role }
+    record {
+      role = ap (λ (v : View). v.role) d.0.0.0 ∙ m.role;
+      counted = m.counted ∙ sym (ap (λ (v : View). issued_in v.trail) d.0.0.0);
+    }
 
 pub returns-clause-same : goal.returns-clause-same
 returns-clause-same g c = let m = c.args.member.now in let d = c.load.ensures.2 m.number m.role in
@@ -47,6 +54,12 @@ returns-clause-found g c = let m = c.args.member.now in let d = c.load.ensures.2
 
 pub returns-clause-small : goal.returns-clause-small
 returns-clause-small g c = let m = c.args.member.now in (c.load.ensures.2 m.number m.role).2
+
+pub returns-clause-rises : goal.returns-clause-rises
+returns-clause-rises g c = let m = c.args.member.now in
+    subst (λ (z : PathSize). (key : ℕ) → Finds (CursorWord Synced) key m.seat.me.0.trail
+    → after z.capacity key ≤ after z.capacity c.load.result) c.requires.table.1
+    (c.load.ensures.2 m.number m.role).3
 
 pub returns-clause-put : goal.returns-clause-put
 returns-clause-put g c = let m = c.args.member.now in let d = c.load.ensures.2 m.number m.role in

@@ -10,6 +10,7 @@ use Rattle.path_rule.proofs.moves.LentLooks.{looks_lent}
 use Rattle.path_rule.proofs.seats.CursorKnows.{synced_seen}
 use Rattle.path_rule.specs.Lasts.{beside_of, shows_of}
 use Rattle.path_rule.proofs.seats.MayGives.{gives_still}
+use Rattle.path_rule.specs.Issued.{issued_in}
 use Rattle.path_table.proofs.table.PathTable.look_lent.Goals as goal
 
 pub load-requires : goal.load-requires
@@ -26,7 +27,10 @@ load-requires g c = let t = c.args.self.now in let m = c.args.member.now in
 
 pub invariant_of-member : goal.invariant_of-member
 invariant_of-member g c = let m = c.args.member.now in let d = c.load.ensures.2 m.number m.role in
-    record { role = ap (λ (v : View). v.role) d.0.0.0 ∙ m.role }
+    record {
+      role = ap (λ (v : View). v.role) d.0.0.0 ∙ m.role;
+      counted = m.counted ∙ sym (ap (λ (v : View). issued_in v.trail) d.0.0.0);
+    }
 
 pub returns-clause-same : goal.returns-clause-same
 returns-clause-same g c = let m = c.args.member.now in let d = c.load.ensures.2 m.number m.role in

@@ -1,9 +1,10 @@
-use Rattle.std.proofs.Common.{refl, ap, ◌∙◌, arith}
+use Rattle.std.proofs.Common.{sym, refl, ap, ◌∙◌, arith}
 use Rattle.path_core.specs.declared.event.Place.TheVariants.{Log}
 use Rattle.path_rule.specs.declared.view.View.{View}
 use Rattle.path_rule.proofs.moves.Looks.{looks}
 use Rattle.path_rule.proofs.places.ReadBack.{log_small}
 use Rattle.path_rule.specs.Lasts.{beside_of, shows_of}
+use Rattle.path_rule.specs.Issued.{issued_in}
 use Rattle.path_table.proofs.table.PathTable.look_log.Goals as goal
 
 pub load-requires : goal.load-requires
@@ -18,23 +19,26 @@ load-requires g c = let t = c.args.self.now in let m = c.args.member.now in
 
 pub invariant_of-member : goal.invariant_of-member
 invariant_of-member g c = let m = c.args.member.now in
-    let d = c.load.ensures.2 m.number (Log) m.role tt refl in
-    record { role = ap (λ (v : View). v.role) d.0.0.0 ∙ m.role }
+    let d = c.load.ensures.2 m.number (Log) m.role tt tt refl in
+    record {
+      role = ap (λ (v : View). v.role) d.0.0.0 ∙ m.role;
+      counted = m.counted ∙ sym (ap (λ (v : View). issued_in v.trail) d.0.0.0);
+    }
 
 pub returns-clause-same : goal.returns-clause-same
 returns-clause-same g c = let m = c.args.member.now in
-    let d = c.load.ensures.2 m.number (Log) m.role tt refl in (c.load.ensures.0, refl, d.0.1)
+    let d = c.load.ensures.2 m.number (Log) m.role tt tt refl in (c.load.ensures.0, refl, d.0.1)
 
 pub returns-clause-step : goal.returns-clause-step
 returns-clause-step g c = let m = c.args.member.now in
-    let d = c.load.ensures.2 m.number (Log) m.role tt refl in
+    let d = c.load.ensures.2 m.number (Log) m.role tt tt refl in
     record { view = d.0.0.0; was = d.0.0.1 }
 
 pub returns-clause-found : goal.returns-clause-found
 returns-clause-found g c = let m = c.args.member.now in
-    (c.load.ensures.2 m.number (Log) m.role tt refl).1
+    (c.load.ensures.2 m.number (Log) m.role tt tt refl).1
 
 pub returns-clause-below : goal.returns-clause-below
 returns-clause-below g c = let m = c.args.member.now in
-    let q = (c.load.ensures.2 m.number (Log) m.role tt refl).1 in
+    let q = (c.load.ensures.2 m.number (Log) m.role tt tt refl).1 in
     let small = log_small q.0.core q.0.lawful in let is = q.1 in omega arith

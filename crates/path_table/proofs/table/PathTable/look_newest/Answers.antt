@@ -6,12 +6,9 @@ use Rattle.path_rule.specs.declared.view.View.{View}
 use Rattle.path_rule.specs.Lasts.{beside_of, shows_of}
 use Rattle.path_rule.specs.Switches.{FlushNewest, FlushOldest}
 use Rattle.path_rule.proofs.moves.Looks.{looks}
-use Rattle.path_rule.proofs.seats.SwitchStages.{
-  newest_found,
-  newest_keeps,
-  newest_leaves,
-  newest_small,
-}
+use Rattle.path_rule.proofs.seats.SwitchStages.{newest_found, newest_keeps, newest_leaves}
+use Rattle.path_rule.proofs.seats.SwitchStages.{newest_small}
+use Rattle.path_rule.specs.Issued.{issued_in}
 use Rattle.path_table.proofs.table.PathTable.look_newest.Goals as goal
 
 pub load-requires : goal.load-requires
@@ -29,31 +26,34 @@ load-requires g c = let t = c.args.self.now in let m = c.args.member.now in
 pub invariant_of-member : goal.invariant_of-member
 invariant_of-member g c = let m = c.args.member.now in
     let few = c.args.self.now.fits.few_tables in let there = c.requires.there in
-    let q = c.load.ensures.2 m.number (Newest c.args.table) m.role (omega arith) refl in
-    record { role = ap (λ (v : View). v.role) q.0.0.0 ∙ m.role }
+    let q = c.load.ensures.2 m.number (Newest c.args.table) m.role (omega arith) tt refl in
+    record {
+      role = ap (λ (v : View). v.role) q.0.0.0 ∙ m.role;
+      counted = m.counted ∙ sym (ap (λ (v : View). issued_in v.trail) q.0.0.0);
+    }
 
 pub returns-clause-same : goal.returns-clause-same
 returns-clause-same g c = let m = c.args.member.now in
     let few = c.args.self.now.fits.few_tables in let there = c.requires.there in
-    let q = c.load.ensures.2 m.number (Newest c.args.table) m.role (omega arith) refl in
+    let q = c.load.ensures.2 m.number (Newest c.args.table) m.role (omega arith) tt refl in
     (c.load.ensures.0, refl, q.0.1)
 
 pub returns-clause-step : goal.returns-clause-step
 returns-clause-step g c = let m = c.args.member.now in
     let few = c.args.self.now.fits.few_tables in let there = c.requires.there in
-    let q = c.load.ensures.2 m.number (Newest c.args.table) m.role (omega arith) refl in
+    let q = c.load.ensures.2 m.number (Newest c.args.table) m.role (omega arith) tt refl in
     record { view = q.0.0.0; was = q.0.0.1 }
 
 pub returns-clause-below : goal.returns-clause-below
 returns-clause-below g c = let m = c.args.member.now in
     let few = c.args.self.now.fits.few_tables in let there = c.requires.there in
-    let q = c.load.ensures.2 m.number (Newest c.args.table) m.role (omega arith) refl in
+    let q = c.load.ensures.2 m.number (Newest c.args.table) m.role (omega arith) tt refl in
     newest_small m.seat.me.0 m.number c.args.table (omega arith) c.load.result q.1.0 q.1.1
 
 pub returns-clause-turn : goal.returns-clause-turn
 returns-clause-turn g c = let m = c.args.member.now in
     let few = c.args.self.now.fits.few_tables in let there = c.requires.there in
-    let q = c.load.ensures.2 m.number (Newest c.args.table) m.role (omega arith) refl in
+    let q = c.load.ensures.2 m.number (Newest c.args.table) m.role (omega arith) tt refl in
     λ held. subst (λ (v : View). FlushNewest c.args.table.0 v.part c.load.result)
     (sym q.0.0.0) (newest_found m.seat.me.0 m.number c.args.table (omega arith) c.load.result q.1.0
     held)
@@ -61,7 +61,7 @@ returns-clause-turn g c = let m = c.args.member.now in
 pub returns-clause-keeps : goal.returns-clause-keeps
 returns-clause-keeps g c = let m = c.args.member.now in
     let few = c.args.self.now.fits.few_tables in let there = c.requires.there in
-    let q = c.load.ensures.2 m.number (Newest c.args.table) m.role (omega arith) refl in
+    let q = c.load.ensures.2 m.number (Newest c.args.table) m.role (omega arith) tt refl in
     λ n F. subst (λ (v : View). FlushOldest c.args.table.0 v.part n)
     (sym q.0.0.0) (newest_keeps m.seat.me.0 m.number c.args.table (omega arith) c.load.result n
     q.1.0 F)
@@ -69,6 +69,6 @@ returns-clause-keeps g c = let m = c.args.member.now in
 pub returns-clause-others : goal.returns-clause-others
 returns-clause-others g c = let m = c.args.member.now in
     let few = c.args.self.now.fits.few_tables in let there = c.requires.there in
-    let q = c.load.ensures.2 m.number (Newest c.args.table) m.role (omega arith) refl in
+    let q = c.load.ensures.2 m.number (Newest c.args.table) m.role (omega arith) tt refl in
     λ u apart. ap (λ (v : View). seat_table v.part u) q.0.0.0
     ∙ newest_leaves m.seat.me.0 m.number c.args.table (omega arith) c.load.result u apart

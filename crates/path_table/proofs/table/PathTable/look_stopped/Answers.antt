@@ -7,6 +7,7 @@ use Rattle.path_rule.specs.declared.view.View.{View}
 use Rattle.path_rule.proofs.moves.Looks.{looks}
 use Rattle.path_rule.proofs.seats.CursorKnows.{StoppedSeen, stopped_seen}
 use Rattle.path_rule.specs.Lasts.{beside_of, shows_of}
+use Rattle.path_rule.specs.Issued.{issued_in}
 use Rattle.path_table.proofs.table.PathTable.look_stopped.Goals as goal
 
 pub load-requires : goal.load-requires
@@ -21,27 +22,30 @@ load-requires g c = let t = c.args.self.now in let m = c.args.member.now in
 
 pub invariant_of-member : goal.invariant_of-member
 invariant_of-member g c = let m = c.args.member.now in
-    let q = c.load.ensures.2 m.number (CursorWord Stopped) m.role tt refl in let d = q.0 in
-    record { role = ap (λ (v : View). v.role) d.0.0 ∙ m.role }
+    let q = c.load.ensures.2 m.number (CursorWord Stopped) m.role tt tt refl in let d = q.0 in
+    record {
+      role = ap (λ (v : View). v.role) d.0.0 ∙ m.role;
+      counted = m.counted ∙ sym (ap (λ (v : View). issued_in v.trail) d.0.0);
+    }
 
 pub returns-clause-same : goal.returns-clause-same
 returns-clause-same g c = let m = c.args.member.now in
-    let q = c.load.ensures.2 m.number (CursorWord Stopped) m.role tt refl in let d = q.0 in
+    let q = c.load.ensures.2 m.number (CursorWord Stopped) m.role tt tt refl in let d = q.0 in
     (c.load.ensures.0, refl, d.1)
 
 pub returns-clause-step : goal.returns-clause-step
 returns-clause-step g c = let m = c.args.member.now in
-    let q = c.load.ensures.2 m.number (CursorWord Stopped) m.role tt refl in let d = q.0 in
+    let q = c.load.ensures.2 m.number (CursorWord Stopped) m.role tt tt refl in let d = q.0 in
     record { view = d.0.0; was = d.0.1 }
 
 pub returns-clause-turn : goal.returns-clause-turn
 returns-clause-turn g c = let m = c.args.member.now in
-    let q = c.load.ensures.2 m.number (CursorWord Stopped) m.role tt refl in let d = q.0 in
+    let q = c.load.ensures.2 m.number (CursorWord Stopped) m.role tt tt refl in let d = q.0 in
     subst (λ (v : View). StoppedSeen v.part c.load.result) (sym d.0.0)
     (stopped_seen m.seat.me.0 m.number c.load.result c.requires.turn)
 
 pub returns-clause-risen : goal.returns-clause-risen
 returns-clause-risen g c = let m = c.args.member.now in
-    let q = c.load.ensures.2 m.number (CursorWord Stopped) m.role tt refl in
+    let q = c.load.ensures.2 m.number (CursorWord Stopped) m.role tt tt refl in
     subst (λ (p : ℕ × PathSize). 0 < p.0 → HasRisen p.1.at_open p.0)
     (λ j. (q.1.1 j, c.requires.table.1 j)) q.1.0.risen

@@ -1,9 +1,10 @@
-use Rattle.std.proofs.Common.{refl, ap, ◌∙◌, arith}
+use Rattle.std.proofs.Common.{sym, refl, ap, ◌∙◌, arith}
 use Rattle.path_core.specs.declared.event.Cursor.TheVariants.{Synced}
 use Rattle.path_core.specs.declared.event.Place.TheVariants.{CursorWord}
 use Rattle.path_rule.specs.declared.view.View.{View}
 use Rattle.path_rule.proofs.moves.Looks.{looks}
 use Rattle.path_rule.specs.Lasts.{beside_of, shows_of}
+use Rattle.path_rule.specs.Issued.{issued_in}
 use Rattle.path_table.proofs.table.PathTable.look_synced.Goals as goal
 
 pub load-requires : goal.load-requires
@@ -18,19 +19,22 @@ load-requires g c = let t = c.args.self.now in let m = c.args.member.now in
 
 pub invariant_of-member : goal.invariant_of-member
 invariant_of-member g c = let m = c.args.member.now in
-    let d = c.load.ensures.2 m.number (CursorWord Synced) m.role tt refl in
-    record { role = ap (λ (v : View). v.role) d.0.0.0 ∙ m.role }
+    let d = c.load.ensures.2 m.number (CursorWord Synced) m.role tt tt refl in
+    record {
+      role = ap (λ (v : View). v.role) d.0.0.0 ∙ m.role;
+      counted = m.counted ∙ sym (ap (λ (v : View). issued_in v.trail) d.0.0.0);
+    }
 
 pub returns-clause-same : goal.returns-clause-same
 returns-clause-same g c = let m = c.args.member.now in
-    let d = c.load.ensures.2 m.number (CursorWord Synced) m.role tt refl in
+    let d = c.load.ensures.2 m.number (CursorWord Synced) m.role tt tt refl in
     (c.load.ensures.0, refl, d.0.1)
 
 pub returns-clause-step : goal.returns-clause-step
 returns-clause-step g c = let m = c.args.member.now in
-    let d = c.load.ensures.2 m.number (CursorWord Synced) m.role tt refl in
+    let d = c.load.ensures.2 m.number (CursorWord Synced) m.role tt tt refl in
     record { view = d.0.0.0; was = d.0.0.1 }
 
 pub returns-clause-found : goal.returns-clause-found
 returns-clause-found g c = let m = c.args.member.now in
-    (c.load.ensures.2 m.number (CursorWord Synced) m.role tt refl).1
+    (c.load.ensures.2 m.number (CursorWord Synced) m.role tt tt refl).1

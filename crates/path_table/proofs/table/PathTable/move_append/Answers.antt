@@ -8,6 +8,7 @@ use Rattle.path_rule.specs.Turns.{TurnSaw}
 use Rattle.path_rule.proofs.moves.AppendMoved.{moves}
 use Rattle.path_rule.proofs.seats.HolderIssues as know
 use Rattle.path_rule.specs.Lasts.{beside_of, shows_of}
+use Rattle.path_rule.specs.Issued.{issued_in}
 use Rattle.path_table.proofs.table.PathTable.move_append.Goals as goal
 
 pub store-requires : goal.store-requires
@@ -27,7 +28,10 @@ store-requires g c = let t = c.args.self.now in let m = c.args.member.now in
 pub invariant_of-member : goal.invariant_of-member
 invariant_of-member g c = let m = c.args.member.now in
     let q = c.store.ensures.2 m.number c.args.current m.role c.requires.turn.1 in
-    record { role = ap (λ (v : View). v.role) q.0.0 ∙ m.role }
+    record {
+      role = ap (λ (v : View). v.role) q.0.0 ∙ m.role;
+      counted = m.counted ∙ sym (ap (λ (v : View). issued_in v.trail) q.0.0);
+    }
 
 pub returns-clause-same : goal.returns-clause-same
 returns-clause-same g c = let m = c.args.member.now in

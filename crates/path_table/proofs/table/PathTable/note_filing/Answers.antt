@@ -11,6 +11,7 @@ use Rattle.path_rule.specs.Lasts.{beside_of, shows_of}
 use Rattle.path_rule.specs.Turns.{FoundRunning}
 use Rattle.path_rule.proofs.moves.NotedSteps.{notes_filing}
 use Rattle.path_rule.proofs.seats.MayGives.{carries_on, filed_as, hands_as, holds_still}
+use Rattle.path_rule.specs.Issued.{issued_in}
 use Rattle.path_table.proofs.table.PathTable.note_filing.Goals as goal
 
 pub load-requires : goal.load-requires
@@ -28,7 +29,10 @@ load-requires g c = let t = c.args.self.now in let m = c.args.member.now in
 pub invariant_of-member : goal.invariant_of-member
 invariant_of-member g c = let m = c.args.member.now in
     let D = c.load.ensures.2 m.number m.role in
-    record { role = ap (λ (v : View). v.role) D.0.0.4.0 ∙ m.role }
+    record {
+      role = ap (λ (v : View). v.role) D.0.0.4.0 ∙ m.role;
+      counted = m.counted ∙ sym (ap (λ (v : View). issued_in v.trail) D.0.0.4.0);
+    }
 
 pub returns-clause-same : goal.returns-clause-same
 returns-clause-same g c = let m = c.args.member.now in

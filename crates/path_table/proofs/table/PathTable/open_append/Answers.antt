@@ -1,4 +1,4 @@
-use Rattle.std.proofs.Common.{refl, sym, ap, ◌∙◌, subst, arith}
+use Rattle.std.proofs.Common.{◌*◌, refl, sym, ap, ◌∙◌, subst, arith}
 use Rattle.op_core.specs.declared.count.Order.TheVariants.{Append}
 use Rattle.path_core.specs.declared.seat.Issue.TheVariants.{Opened}
 use Rattle.path_core.specs.Parts.{marker_of}
@@ -8,6 +8,7 @@ use Rattle.path_rule.specs.Turns.{TurnSaw}
 use Rattle.path_rule.proofs.moves.AppendOpened.{opens_append}
 use Rattle.path_rule.proofs.seats.HolderIssues as know
 use Rattle.path_rule.specs.Lasts.{beside_of, shows_of}
+use Rattle.path_rule.specs.Issued.{issued_in}
 use Rattle.path_table.proofs.table.PathTable.open_append.Goals as goal
 
 pub store-requires : goal.store-requires
@@ -15,50 +16,63 @@ store-requires g c = let t = c.args.self.now in let m = c.args.member.now in
     let k = t.table.shared.key.size in
     let o = beside_of (g.K.Keeper.holds t.table.shared.key.first.value) in let wide = t.wide in (
       c.requires.table.0,
-      let f = c.requires.turn.3 in
-          omega arith,
+      omega arith,
       opens_append (shows_of g.K.Keeper.holds) o k t.table.shared.table_id.slots m.seat.id m.seat.me
-          m.number m.role c.args.group c.args.current c.requires.marker.0 c.requires.marker.1
+          m.number m.role c.args.group c.args.current c.requires.free.0 c.requires.marker.0
+          c.requires.marker.1
           c.requires.turn.0.held c.requires.turn.0.issue c.requires.turn.1 c.requires.turn.2
-          c.requires.turn.0.empty c.requires.runs c.requires.turn.3,
+          c.requires.free.1 c.requires.free.2 c.requires.turn.0.empty c.requires.runs
+          c.requires.turn.3,
     )
 
 pub invariant_of-member : goal.invariant_of-member
 invariant_of-member g c = let m = c.args.member.now in
-    let q = c.store.ensures.2 m.number c.args.group m.role c.requires.turn.3 refl in
-    record { role = ap (λ (v : View). v.role) q.0.0.0 ∙ m.role }
+    let q = c.store.ensures.2 m.number c.args.group c.args.current m.role c.requires.turn.1
+    c.requires.turn.2 in
+    record {
+      role = ap (λ (v : View). v.role) q.0.0.0 ∙ m.role;
+      counted = (let old = m.counted in let new = ap (λ (v : View). issued_in v.trail) q.0.0.0 in
+          omega (arith, old, new));
+    }
 
 pub returns-clause-same : goal.returns-clause-same
 returns-clause-same g c = let m = c.args.member.now in
-    let q = c.store.ensures.2 m.number c.args.group m.role c.requires.turn.3 refl in
+    let q = c.store.ensures.2 m.number c.args.group c.args.current m.role c.requires.turn.1
+    c.requires.turn.2 in
     (c.store.ensures.0, refl, q.0.1, ap (λ (v : View). v.size) q.0.0.0)
 
 pub returns-clause-step : goal.returns-clause-step
 returns-clause-step g c = let m = c.args.member.now in
-    let q = c.store.ensures.2 m.number c.args.group m.role c.requires.turn.3 refl in
+    let q = c.store.ensures.2 m.number c.args.group c.args.current m.role c.requires.turn.1
+    c.requires.turn.2 in
     record { view = q.0.0.0; was = q.0.0.1 }
 
 pub returns-clause-hands : goal.returns-clause-hands
 returns-clause-hands g c = let m = c.args.member.now in
-    let q = c.store.ensures.2 m.number c.args.group m.role c.requires.turn.3 refl in
+    let q = c.store.ensures.2 m.number c.args.group c.args.current m.role c.requires.turn.1
+    c.requires.turn.2 in
     ap (λ (v : View). v.hands) q.0.0.0
 
 pub returns-clause-turn : goal.returns-clause-turn
 returns-clause-turn g c = let m = c.args.member.now in let v = m.seat.me.0 in
-    let q = c.store.ensures.2 m.number c.args.group m.role c.requires.turn.3 refl in
+    let q = c.store.ensures.2 m.number c.args.group c.args.current m.role c.requires.turn.1
+    c.requires.turn.2 in
     let e = sym q.0.0.0 in (
       subst (Holds (Opened Append)) e
-          (know.opened_held v m.number 0 Append c.args.group c.requires.turn.0),
+          (know.opened_held v m.number (65536 * c.args.group) Append c.args.group
+          c.requires.turn.0),
       (λ k s. subst (λ (z : View). TurnSaw Append z.part k) e
-          (know.opened_saw v m.number 0 Append c.args.group k s)),
+          (know.opened_saw v m.number (65536 * c.args.group) Append c.args.group k s)),
     )
 
 pub returns-clause-allowed : goal.returns-clause-allowed
 returns-clause-allowed g c = let m = c.args.member.now in
-    (c.store.ensures.2 m.number c.args.group m.role c.requires.turn.3 refl).1
+    (c.store.ensures.2 m.number c.args.group c.args.current m.role c.requires.turn.1
+    c.requires.turn.2).1
 
 pub returns-clause-marker : goal.returns-clause-marker
 returns-clause-marker g c = let m = c.args.member.now in
-    let q = c.store.ensures.2 m.number c.args.group m.role c.requires.turn.3 refl in
+    let q = c.store.ensures.2 m.number c.args.group c.args.current m.role c.requires.turn.1
+    c.requires.turn.2 in
     ap (λ (v : View). marker_of v.part) q.0.0.0
-    ∙ know.opened_marker m.seat.me.0 m.number 0 Append c.args.group
+    ∙ know.opened_marker m.seat.me.0 m.number (65536 * c.args.group) Append c.args.group

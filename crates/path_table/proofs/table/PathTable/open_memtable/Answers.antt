@@ -7,6 +7,7 @@ use Rattle.path_core.specs.Parts.{stage_of}
 use Rattle.path_rule.proofs.moves.SwitchSteps.{opens_memtable}
 use Rattle.path_rule.proofs.seats.SwitchStages.{opened_stage, switch_leaves}
 use Rattle.path_rule.proofs.seats.LeastStays.{open_keeps, open_newest}
+use Rattle.path_rule.specs.Issued.{issued_in}
 use Rattle.path_table.proofs.table.PathTable.open_memtable.Goals as goal
 
 pub store-requires : goal.store-requires
@@ -22,14 +23,17 @@ store-requires g c = let t = c.args.self.now in let m = c.args.member.now in
           m.number m.role c.args.table c.args.memtable turn.0
           (omega arith) (subst (λ (z : PathSize). c.args.table.0 < z.tables) (sym
           c.requires.table.1) there)
-          turn.1 turn.2 turn.3 turn.4,
+          turn.1 turn.2 turn.3 c.requires.cleared turn.4,
     )
 
 pub invariant_of-member : goal.invariant_of-member
 invariant_of-member g c = let m = c.args.member.now in
     let few = c.args.self.now.fits.few_tables in let there = c.requires.there in
     let q = c.store.ensures.2 m.number c.args.table m.role (omega arith) refl in
-    record { role = ap (λ (v : View). v.role) q.0.0 ∙ m.role }
+    record {
+      role = ap (λ (v : View). v.role) q.0.0 ∙ m.role;
+      counted = m.counted ∙ sym (ap (λ (v : View). issued_in v.trail) q.0.0);
+    }
 
 pub returns-clause-same : goal.returns-clause-same
 returns-clause-same g c = let m = c.args.member.now in

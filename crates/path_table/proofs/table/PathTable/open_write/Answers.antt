@@ -1,4 +1,4 @@
-use Rattle.std.proofs.Common.{refl, sym, ap, ◌∙◌, subst, arith}
+use Rattle.std.proofs.Common.{◌*◌, refl, sym, ap, ◌∙◌, subst, arith}
 use Rattle.op_core.specs.declared.count.Order.TheVariants.{Write}
 use Rattle.path_core.specs.declared.seat.Issue.TheVariants.{Opened}
 use Rattle.path_core.specs.Parts.{stage_of}
@@ -8,6 +8,7 @@ use Rattle.path_rule.specs.Turns.{TurnSaw}
 use Rattle.path_rule.proofs.moves.WriteBarriers.{opens_write}
 use Rattle.path_rule.proofs.seats.HolderIssues as know
 use Rattle.path_rule.specs.Lasts.{beside_of, shows_of}
+use Rattle.path_rule.specs.Issued.{issued_in}
 use Rattle.path_table.proofs.table.PathTable.open_write.Goals as goal
 
 pub store-requires : goal.store-requires
@@ -15,44 +16,55 @@ store-requires g c = let t = c.args.self.now in let m = c.args.member.now in
     let k = t.table.shared.key.size in
     let o = beside_of (g.K.Keeper.holds t.table.shared.key.first.value) in let wide = t.wide in (
       c.requires.table.0,
-      let f = c.requires.turn.3 in
-          omega arith,
+      omega arith,
       opens_write (shows_of g.K.Keeper.holds) o k t.table.shared.table_id.slots m.seat.id m.seat.me
-          m.number m.role c.args.group c.args.current c.requires.waiting c.requires.turn.0.held
-          c.requires.turn.0.issue c.requires.turn.1 c.requires.turn.2 c.requires.turn.0.empty
+          m.number m.role c.args.group c.args.current c.requires.free.0 c.requires.waiting
+          c.requires.turn.0.held
+          c.requires.turn.0.issue c.requires.turn.1 c.requires.turn.2 c.requires.free.1
+          c.requires.free.2 c.requires.turn.0.empty
           c.requires.turn.3,
     )
 
 pub invariant_of-member : goal.invariant_of-member
 invariant_of-member g c = let m = c.args.member.now in
-    let q = c.store.ensures.2 m.number c.args.group m.role c.requires.turn.3 refl in let d = q.0 in
-    record { role = ap (λ (v : View). v.role) d.0.0 ∙ m.role }
+    let q = c.store.ensures.2 m.number c.args.group c.args.current m.role c.requires.turn.1
+    c.requires.turn.2 in let d = q.0 in
+    record {
+      role = ap (λ (v : View). v.role) d.0.0 ∙ m.role;
+      counted = (let old = m.counted in let new = ap (λ (v : View). issued_in v.trail) d.0.0 in
+          omega (arith, old, new));
+    }
 
 pub returns-clause-same : goal.returns-clause-same
 returns-clause-same g c = let m = c.args.member.now in
-    let q = c.store.ensures.2 m.number c.args.group m.role c.requires.turn.3 refl in let d = q.0 in
+    let q = c.store.ensures.2 m.number c.args.group c.args.current m.role c.requires.turn.1
+    c.requires.turn.2 in let d = q.0 in
     (c.store.ensures.0, refl, d.1, ap (λ (v : View). v.size) d.0.0)
 
 pub returns-clause-step : goal.returns-clause-step
 returns-clause-step g c = let m = c.args.member.now in
-    let q = c.store.ensures.2 m.number c.args.group m.role c.requires.turn.3 refl in let d = q.0 in
+    let q = c.store.ensures.2 m.number c.args.group c.args.current m.role c.requires.turn.1
+    c.requires.turn.2 in let d = q.0 in
     record { view = d.0.0; was = d.0.1 }
 
 pub returns-clause-turn : goal.returns-clause-turn
 returns-clause-turn g c = let m = c.args.member.now in let v = m.seat.me.0 in
-    let q = c.store.ensures.2 m.number c.args.group m.role c.requires.turn.3 refl in let d = q.0 in
+    let q = c.store.ensures.2 m.number c.args.group c.args.current m.role c.requires.turn.1
+    c.requires.turn.2 in let d = q.0 in
     let e = sym d.0.0 in (
       subst (Holds (Opened Write)) e
-          (know.opened_held v m.number 0 Write c.args.group c.requires.turn.0),
+          (know.opened_held v m.number (65536 * c.args.group) Write c.args.group c.requires.turn.0),
       (λ k s. subst (λ (z : View). TurnSaw Write z.part k) e
-          (know.opened_saw v m.number 0 Write c.args.group k s)),
+          (know.opened_saw v m.number (65536 * c.args.group) Write c.args.group k s)),
     )
 
 pub returns-clause-stages : goal.returns-clause-stages
 returns-clause-stages g c = let m = c.args.member.now in
-    let q = c.store.ensures.2 m.number c.args.group m.role c.requires.turn.3 refl in let d = q.0 in
+    let q = c.store.ensures.2 m.number c.args.group c.args.current m.role c.requires.turn.1
+    c.requires.turn.2 in let d = q.0 in
     λ t. ap (λ (v : View). stage_of v.part t) d.0.0
 
 pub returns-clause-allowed : goal.returns-clause-allowed
 returns-clause-allowed g c = let m = c.args.member.now in
-    (c.store.ensures.2 m.number c.args.group m.role c.requires.turn.3 refl).1
+    (c.store.ensures.2 m.number c.args.group c.args.current m.role c.requires.turn.1
+    c.requires.turn.2).1

@@ -11,6 +11,7 @@ use Rattle.path_rule.specs.Calls.{MayGive, IsSyncedTo}
 use Rattle.path_rule.specs.Lasts.{beside_of, more_lasting, shown, shows_of}
 use Rattle.path_rule.proofs.moves.SyncSteps.{syncs}
 use Rattle.path_rule.proofs.seats.MayGives.{gives_still, carries_on}
+use Rattle.path_rule.specs.Issued.{issued_in}
 use Rattle.path_table.proofs.table.PathTable.put_synced.Goals as goal
 
 pub store-requires : goal.store-requires
@@ -31,7 +32,10 @@ pub invariant_of-member : goal.invariant_of-member
 invariant_of-member g c = let m = c.args.member.now in let k = c.requires.desk in
     let d = c.store.ensures.2 m.number
     (more_lasting k.0 c.args.value m.seat.me.0.hands.lasting) k.1 m.role k.3 in
-    record { role = ap (λ (v : View). v.role) d.0.0 ∙ m.role }
+    record {
+      role = ap (λ (v : View). v.role) d.0.0 ∙ m.role;
+      counted = m.counted ∙ sym (ap (λ (v : View). issued_in v.trail) d.0.0);
+    }
 
 pub returns-clause-same : goal.returns-clause-same
 returns-clause-same g c = let m = c.args.member.now in let k = c.requires.desk in

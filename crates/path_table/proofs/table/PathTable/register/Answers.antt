@@ -1,9 +1,10 @@
-use Rattle.std.proofs.Common.{refl, ap, ◌∙◌, arith}
+use Rattle.std.proofs.Common.{sym, refl, ap, ◌∙◌, arith}
 use mathlib.Core.Logic.{dite}
 use native.Mathlib.Decide.{ℕ_discrete}
 use Rattle.path_rule.specs.declared.view.View.{View}
 use Rattle.path_rule.proofs.moves.WriteSteps.{registers}
 use Rattle.path_rule.specs.Lasts.{beside_of, shows_of}
+use Rattle.path_rule.specs.Issued.{issued_in}
 use Rattle.path_table.proofs.table.PathTable.register.Goals as goal
 
 pub compare_exchange-requires : goal.compare_exchange-requires
@@ -15,19 +16,25 @@ compare_exchange-requires g c = let t = c.args.self.now in let m = c.args.member
       omega arith,
       registers (shows_of g.K.Keeper.holds) o k t.table.shared.table_id.slots
           m.seat.id m.seat.me m.number m.role c.args.group c.args.looked c.requires.idle.0
-          c.requires.idle.1 c.requires.group.1 c.requires.group.2 c.requires.group.0,
+          c.requires.idle.1 c.requires.group.1 c.requires.group.2 c.requires.group.3,
     )
 
 pub invariant_of-member : goal.invariant_of-member
 invariant_of-member g c = let m = c.args.member.now in
-    let e = c.compare_exchange.ensures.2 m.number c.args.group m.role c.requires.group.0 refl in
+    let e = c.compare_exchange.ensures.2 m.number c.args.group m.role refl c.requires.group.2 in
     dite (ℕ_discrete c.compare_exchange.result c.args.looked)
-    (λ hit. let d = e.0 hit in record { role = ap (λ (v : View). v.role) d.0.0 ∙ m.role })
-    (λ miss. let d = e.1 miss in record { role = ap (λ (v : View). v.role) d.0.0 ∙ m.role })
+    (λ hit. let d = e.0 hit in record {
+      role = ap (λ (v : View). v.role) d.0.0 ∙ m.role;
+      counted = m.counted ∙ sym (ap (λ (v : View). issued_in v.trail) d.0.0);
+    })
+    (λ miss. let d = e.1 miss in record {
+      role = ap (λ (v : View). v.role) d.0.0 ∙ m.role;
+      counted = m.counted ∙ sym (ap (λ (v : View). issued_in v.trail) d.0.0);
+    })
 
 pub returns-clause-same : goal.returns-clause-same
 returns-clause-same g c = let m = c.args.member.now in
-    let e = c.compare_exchange.ensures.2 m.number c.args.group m.role c.requires.group.0 refl in (
+    let e = c.compare_exchange.ensures.2 m.number c.args.group m.role refl c.requires.group.2 in (
       c.compare_exchange.ensures.0,
       refl,
       dite (ℕ_discrete c.compare_exchange.result c.args.looked)
@@ -36,10 +43,10 @@ returns-clause-same g c = let m = c.args.member.now in
 
 pub returns-clause-hit : goal.returns-clause-hit
 returns-clause-hit g c = let m = c.args.member.now in
-    λ hit. let e = c.compare_exchange.ensures.2 m.number c.args.group m.role c.requires.group.0
-    refl in let d = e.0 hit in record { view = d.0.0; was = d.0.1 }
+    λ hit. let e = c.compare_exchange.ensures.2 m.number c.args.group m.role refl
+    c.requires.group.2 in let d = e.0 hit in record { view = d.0.0; was = d.0.1 }
 
 pub returns-clause-miss : goal.returns-clause-miss
 returns-clause-miss g c = let m = c.args.member.now in
-    λ miss. let e = c.compare_exchange.ensures.2 m.number c.args.group m.role c.requires.group.0
-    refl in let d = e.1 miss in record { view = d.0.0; was = d.0.1 }
+    λ miss. let e = c.compare_exchange.ensures.2 m.number c.args.group m.role refl
+    c.requires.group.2 in let d = e.1 miss in record { view = d.0.0; was = d.0.1 }

@@ -1,21 +1,5 @@
-use Rattle.std.proofs.Common.{
-  ◌≡◌,
-  ◌||◌,
-  ◌+◌,
-  ◌<◌,
-  ◌≤◌,
-  suc,
-  false,
-  true,
-  Option,
-  None,
-  refl,
-  sym,
-  ap,
-  ◌∙◌,
-  subst,
-  arith,
-}
+use Rattle.std.proofs.Common.{◌≡◌, ◌||◌, ◌+◌, ◌<◌, ◌≤◌, suc, false, true, Option, None, refl, sym}
+use Rattle.std.proofs.Common.{ap, ◌∙◌, subst, arith}
 use Rattle.std.specs.Option.{option_map, option_map_or}
 use Rattle.path_core.specs.declared.seat.Issue.TheVariants.{Rest}
 use Rattle.path_core.specs.declared.seat.SyncTurn.{SyncTurn}
@@ -30,6 +14,7 @@ use Rattle.path_rule.specs.HandsAfter.{with_reading}
 use Rattle.path_rule.specs.Lasts.{beside_of, shows_of}
 use Rattle.path_rule.proofs.moves.FiledSteps.{retires_with}
 use Rattle.path_rule.proofs.seats.MayGives.{carries_on, holds_still, or_true}
+use Rattle.path_rule.specs.Issued.{issued_in}
 use Rattle.path_table.proofs.table.PathTable.retire_filed.Goals as goal
 
 pub store-requires : goal.store-requires
@@ -58,7 +43,10 @@ invariant_of-member g c = let m = c.args.member.now in let F = c.requires.file i
     let l = more_filed (next_file m.seat.me.0.hands.lasting c.args.table.0 c.args.bound.0 F.1)
     m.seat.me.0.hands.lasting in
     let d = c.store.ensures.2 m.number c.args.table l m.seat.me.0.hands.pending m.role (omega arith)
-    refl F.5 in record { role = ap (λ (v : View). v.role) d.0.0 ∙ m.role }
+    refl F.5 in record {
+      role = ap (λ (v : View). v.role) d.0.0 ∙ m.role;
+      counted = m.counted ∙ sym (ap (λ (v : View). issued_in v.trail) d.0.0);
+    }
 
 pub returns-clause-same : goal.returns-clause-same
 returns-clause-same g c = let m = c.args.member.now in let F = c.requires.file in

@@ -12,6 +12,7 @@ use Rattle.path_rule.proofs.places.SamePlace.{in_rows}
 use Rattle.path_rule.proofs.seats.HolderLooks as know
 use Rattle.path_rule.specs.Lasts.{beside_of, shows_of}
 use Rattle.path_rule.proofs.seats.SwitchStages.{current_stages}
+use Rattle.path_rule.specs.Issued.{issued_in}
 use Rattle.path_table.proofs.table.PathTable.seek_current.Goals as goal
 
 pub load-requires : goal.load-requires
@@ -30,31 +31,34 @@ load-requires g c = let t = c.args.self.now in let m = c.args.member.now in
 
 pub invariant_of-member : goal.invariant_of-member
 invariant_of-member g c = let m = c.args.member.now in
-    let q = c.load.ensures.2 m.number (Current c.args.order) m.role tt
+    let q = c.load.ensures.2 m.number (Current c.args.order) m.role tt tt
     c.current_word.ensures in
-    record { role = ap (λ (v : View). v.role) q.0.0.0 ∙ m.role }
+    record {
+      role = ap (λ (v : View). v.role) q.0.0.0 ∙ m.role;
+      counted = m.counted ∙ sym (ap (λ (v : View). issued_in v.trail) q.0.0.0);
+    }
 
 pub returns-clause-same : goal.returns-clause-same
 returns-clause-same g c = let m = c.args.member.now in
-    let q = c.load.ensures.2 m.number (Current c.args.order) m.role tt
+    let q = c.load.ensures.2 m.number (Current c.args.order) m.role tt tt
     c.current_word.ensures in
     (c.load.ensures.0, refl, q.0.1, ap (λ (v : View). v.size) q.0.0.0)
 
 pub returns-clause-step : goal.returns-clause-step
 returns-clause-step g c = let m = c.args.member.now in
-    let q = c.load.ensures.2 m.number (Current c.args.order) m.role tt
+    let q = c.load.ensures.2 m.number (Current c.args.order) m.role tt tt
     c.current_word.ensures in
     record { view = q.0.0.0; was = q.0.0.1 }
 
 pub returns-clause-hands : goal.returns-clause-hands
 returns-clause-hands g c = let m = c.args.member.now in
-    let q = c.load.ensures.2 m.number (Current c.args.order) m.role tt
+    let q = c.load.ensures.2 m.number (Current c.args.order) m.role tt tt
     c.current_word.ensures in
     ap (λ (v : View). v.hands) q.0.0.0
 
 pub returns-clause-turn : goal.returns-clause-turn
 returns-clause-turn g c = let m = c.args.member.now in let v = m.seat.me.0 in
-    let q = c.load.ensures.2 m.number (Current c.args.order) m.role tt
+    let q = c.load.ensures.2 m.number (Current c.args.order) m.role tt tt
     c.current_word.ensures in
     let e = sym q.0.0.0 in (
       subst (Holds Rest) e
@@ -65,27 +69,27 @@ returns-clause-turn g c = let m = c.args.member.now in let v = m.seat.me.0 in
 
 pub returns-clause-below : goal.returns-clause-below
 returns-clause-below g c = let m = c.args.member.now in
-    let q = c.load.ensures.2 m.number (Current c.args.order) m.role tt
+    let q = c.load.ensures.2 m.number (Current c.args.order) m.role tt tt
     c.current_word.ensures in
     current_below m.seat.me.0 m.number c.load.result c.args.order q.1.0 q.1.1
 
 pub returns-clause-marker : goal.returns-clause-marker
 returns-clause-marker g c = let m = c.args.member.now in
-    let q = c.load.ensures.2 m.number (Current c.args.order) m.role tt
+    let q = c.load.ensures.2 m.number (Current c.args.order) m.role tt tt
     c.current_word.ensures in
     ap (λ (v : View). marker_of v.part) q.0.0.0
     ∙ know.current_marker m.seat.me.0 m.number c.load.result c.args.order
 
 pub returns-clause-stages : goal.returns-clause-stages
 returns-clause-stages g c = let m = c.args.member.now in
-    let q = c.load.ensures.2 m.number (Current c.args.order) m.role tt
+    let q = c.load.ensures.2 m.number (Current c.args.order) m.role tt tt
     c.current_word.ensures in
     λ t. ap (λ (v : View). stage_of v.part t) q.0.0.0
     ∙ current_stages m.seat.me.0 m.number c.load.result c.args.order t
 
 pub returns-clause-runs : goal.returns-clause-runs
 returns-clause-runs g c = let m = c.args.member.now in
-    let q = c.load.ensures.2 m.number (Current c.args.order) m.role tt
+    let q = c.load.ensures.2 m.number (Current c.args.order) m.role tt tt
     c.current_word.ensures in
     λ runs. subst (λ (z : View). FoundRunning z.part) (sym q.0.0.0)
     (know.current_runs m.seat.me.0 m.number c.load.result c.args.order runs)

@@ -1,9 +1,10 @@
-use Rattle.std.proofs.Common.{refl, sym, ap, ◌∙◌, subst}
+use Rattle.std.proofs.Common.{◌≤◌, refl, sym, ap, ◌∙◌, subst}
 use Rattle.op_core.specs.declared.count.Order.TheVariants.{Write}
 use Rattle.path_core.specs.declared.event.Carried.TheVariants.{Nothing}
 use Rattle.path_core.specs.declared.event.Event.TheVariants.{Close}
 use Rattle.path_core.specs.Parts.{HoldsNoTurn}
 use Rattle.path_rule.specs.declared.view.View.{View}
+use Rattle.path_rule.specs.Issued.{issued_in, opened_in}
 use Rattle.path_rule.proofs.seats.Staying.{view_columns, free_stays}
 use Rattle.path_table.proofs.table.PathTable.stop.Goals as goal
 
@@ -20,4 +21,5 @@ invariant_of-result g c = let s = c.args.seat in let d = c.leave-found.ensures.s
       free = subst (λ (v : View). HoldsNoTurn v.part) (sym d.view)
           (free_stays e v.part _ C refl (λ t b. refl) s.free);
       bare = c.leave-found.ensures.same.2 ∙ s.bare;
+      paid = subst (λ (v : View). opened_in v.trail ≤ issued_in v.trail) (sym d.view) s.paid;
     }

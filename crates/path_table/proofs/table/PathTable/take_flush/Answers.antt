@@ -1,14 +1,5 @@
-use Rattle.std.proofs.Common.{
-  ◌<◌,
-  refl,
-  sym,
-  ap,
-  ◌∙◌,
-  subst,
-  arith,
-  get_or-set_same,
-  get_or-set_other,
-}
+use Rattle.std.proofs.Common.{◌<◌, refl, sym, ap, ◌∙◌, subst, arith, get_or-set_same}
+use Rattle.std.proofs.Common.{get_or-set_other}
 use mathlib.Core.Logic.{dite}
 use native.Mathlib.Decide.{ℕ_discrete}
 use Rattle.path_core.specs.Parts.{seat_table, untouched}
@@ -17,6 +8,7 @@ use Rattle.path_rule.specs.declared.view.View.{View}
 use Rattle.path_rule.specs.Lasts.{beside_of, shows_of}
 use Rattle.path_rule.proofs.moves.TableTurns.{takes_flush}
 use Rattle.path_rule.proofs.seats.Accepting.{table_inside}
+use Rattle.path_rule.specs.Issued.{issued_in}
 use Rattle.path_table.proofs.table.PathTable.take_flush.Goals as goal
 
 pub compare_exchange-requires : goal.compare_exchange-requires
@@ -37,8 +29,14 @@ invariant_of-member g c = let m = c.args.member.now in
     let few = c.args.self.now.fits.few_tables in let there = c.requires.there in
     let e = c.compare_exchange.ensures.2 m.number c.args.table m.role (omega arith) refl in
     dite (ℕ_discrete c.compare_exchange.result 0)
-    (λ hit. record { role = ap (λ (v : View). v.role) (e.0 hit).0.0.0 ∙ m.role })
-    (λ miss. record { role = ap (λ (v : View). v.role) (e.1 miss).0.0.0 ∙ m.role })
+    (λ hit. record {
+      role = ap (λ (v : View). v.role) (e.0 hit).0.0.0 ∙ m.role;
+      counted = m.counted ∙ sym (ap (λ (v : View). issued_in v.trail) (e.0 hit).0.0.0);
+    })
+    (λ miss. record {
+      role = ap (λ (v : View). v.role) (e.1 miss).0.0.0 ∙ m.role;
+      counted = m.counted ∙ sym (ap (λ (v : View). issued_in v.trail) (e.1 miss).0.0.0);
+    })
 
 pub returns-clause-same : goal.returns-clause-same
 returns-clause-same g c = let m = c.args.member.now in

@@ -10,6 +10,7 @@ use Rattle.path_rule.specs.Calls.{DidAs}
 use Rattle.path_rule.specs.HandsAfter.{with_held}
 use Rattle.path_rule.specs.Lasts.{beside_of, shows_of}
 use Rattle.path_rule.proofs.moves.MemtableSteps.{takes_memtable}
+use Rattle.path_rule.specs.Issued.{issued_in}
 use Rattle.path_table.proofs.table.PathTable.take_memtable.Goals as goal
 
 pub load-requires : goal.load-requires
@@ -29,7 +30,10 @@ pub invariant_of-member : goal.invariant_of-member
 invariant_of-member g c = let m = c.args.member.now in
     let few = c.args.self.now.fits.few_tables in let there = c.requires.there in
     let q = c.load.ensures.2 m.number c.args.memtable c.args.table m.role (omega arith) refl
-    c.requires.place in record { role = ap (λ (v : View). v.role) q.0.1.0 ∙ m.role }
+    c.requires.place in record {
+      role = ap (λ (v : View). v.role) q.0.1.0 ∙ m.role;
+      counted = m.counted ∙ sym (ap (λ (v : View). issued_in v.trail) q.0.1.0);
+    }
 
 pub returns-clause-same : goal.returns-clause-same
 returns-clause-same g c = (c.load.ensures.0, refl)

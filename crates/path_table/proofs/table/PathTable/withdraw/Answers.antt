@@ -1,8 +1,9 @@
-use Rattle.std.proofs.Common.{refl, ap, ◌∙◌, arith}
+use Rattle.std.proofs.Common.{sym, refl, ap, ◌∙◌, arith}
 use Rattle.atomic_table.specs.Table.{rest}
 use Rattle.path_rule.specs.declared.view.View.{View}
 use Rattle.path_rule.proofs.moves.AppendSteps.{withdraws}
 use Rattle.path_rule.specs.Lasts.{beside_of, shows_of}
+use Rattle.path_rule.specs.Issued.{issued_in}
 use Rattle.path_table.proofs.table.PathTable.withdraw.Goals as goal
 
 pub fetch_sub-requires : goal.fetch_sub-requires
@@ -15,20 +16,23 @@ fetch_sub-requires g c = let t = c.args.self.now in let m = c.args.member.now in
       withdraws (shows_of g.K.Keeper.holds) o k t.table.shared.table_id.slots
           m.seat.id m.seat.me m.number m.role c.args.group c.requires.box_kept.0
           (rest m.seat.me.1) c.requires.group.1 c.requires.group.2 c.requires.box_kept.1
-          c.requires.box_kept.2 c.requires.group.0,
+          c.requires.box_kept.2,
     )
 
 pub invariant_of-member : goal.invariant_of-member
 invariant_of-member g c = let m = c.args.member.now in
-    let d = c.fetch_sub.ensures.2 m.number c.args.group m.role c.requires.group.0 refl in
-    record { role = ap (λ (v : View). v.role) d.0.0 ∙ m.role }
+    let d = c.fetch_sub.ensures.2 m.number c.args.group m.role c.requires.group.1 in
+    record {
+      role = ap (λ (v : View). v.role) d.0.0 ∙ m.role;
+      counted = m.counted ∙ sym (ap (λ (v : View). issued_in v.trail) d.0.0);
+    }
 
 pub returns-clause-same : goal.returns-clause-same
 returns-clause-same g c = let m = c.args.member.now in
-    let d = c.fetch_sub.ensures.2 m.number c.args.group m.role c.requires.group.0 refl in
+    let d = c.fetch_sub.ensures.2 m.number c.args.group m.role c.requires.group.1 in
     (c.fetch_sub.ensures.0, refl, d.1)
 
 pub returns-clause-step : goal.returns-clause-step
 returns-clause-step g c = let m = c.args.member.now in
-    let d = c.fetch_sub.ensures.2 m.number c.args.group m.role c.requires.group.0 refl in
+    let d = c.fetch_sub.ensures.2 m.number c.args.group m.role c.requires.group.1 in
     record { view = d.0.0; was = d.0.1 }

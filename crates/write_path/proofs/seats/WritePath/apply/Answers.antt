@@ -1,24 +1,5 @@
-use Rattle.std.proofs.Common.{
-  ℕ,
-  ◌≡◌,
-  ◌<◌,
-  ◌^◌,
-  List,
-  [],
-  ◌∷◌,
-  length,
-  map,
-  take,
-  drop,
-  inr,
-  Some,
-  refl,
-  sym,
-  ap,
-  ◌∙◌,
-  subst,
-  arith,
-}
+use Rattle.std.proofs.Common.{ℕ, ◌≡◌, ◌<◌, ◌^◌, List, [], ◌∷◌, length, map, take, drop, inr, Some}
+use Rattle.std.proofs.Common.{refl, sym, ap, ◌∙◌, subst, arith, ◌≤◌}
 use Rattle.path_core.specs.declared.note.EntryNote.{EntryNote}
 use Rattle.path_core.specs.declared.seat.Seat.{Seat}
 use Rattle.path_core.specs.declared.state.Placed.{Placed}
@@ -27,6 +8,7 @@ use Rattle.path_rule.specs.declared.view.Hands.{Hands}
 use Rattle.path_rule.specs.declared.view.OwnStep.{OwnStep}
 use Rattle.path_rule.specs.declared.view.PathSize.{PathSize}
 use Rattle.path_rule.specs.Applying.{looked, HasDeposited}
+use Rattle.path_rule.specs.Issued.{issued_in, opened_in}
 use Rattle.write_path.specs.Applies.{tables_left}
 use Rattle.path_flush.specs.OwnWrites.{writes_of}
 use Rattle.write_path.specs.Ends.{put_since}
@@ -79,6 +61,7 @@ invariant_of-result g c =
       free = subst HoldsNoTurn (sym P.part) s.free;
       bare = c.apply_note-member.ensures.same.2 ∙ s.bare;
       rests = ap (λ (h : Hands). h.memtable_box) P.hands;
+      paid = subst (λ (l : List OwnStep). opened_in l ≤ issued_in l) (sym P.trail) s.paid;
     }
 
 pub returns-clause-same : goal.returns-clause-same

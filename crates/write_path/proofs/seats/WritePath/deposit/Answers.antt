@@ -1,26 +1,5 @@
-use Rattle.std.proofs.Common.{
-  ◌≡◌,
-  ℕ,
-  ◌+◌,
-  ◌*◌,
-  ◌%◌,
-  ◌^◌,
-  ◌<◌,
-  List,
-  [],
-  ◌∷◌,
-  length,
-  get_or,
-  Some,
-  refl,
-  sym,
-  ap,
-  ◌∙◌,
-  subst,
-  arith,
-  map,
-  inl,
-}
+use Rattle.std.proofs.Common.{◌≡◌, ℕ, ◌+◌, ◌*◌, ◌%◌, ◌^◌, ◌<◌, List, [], ◌∷◌, length, get_or, Some}
+use Rattle.std.proofs.Common.{refl, sym, ap, ◌∙◌, subst, arith, map, inl, ◌≤◌}
 use Rattle.atomic_table.specs.Table.{rest}
 use Rattle.op_core.specs.declared.count.Order.TheVariants.{Append}
 use Rattle.path_core.specs.declared.event.Carried.TheVariants.{Deposit}
@@ -34,6 +13,7 @@ use Rattle.path_rule.specs.Boxes.{box_of}
 use Rattle.path_core.specs.Parts.{HoldsNoTurn}
 use Rattle.path_rule.specs.Calls.{Did}
 use Rattle.path_rule.specs.Rule.{event_of}
+use Rattle.path_rule.specs.Issued.{issued_in, opened_in}
 use Rattle.path_rule.proofs.seats.Staying.{view_columns, free_stays}
 use Rattle.write_path.specs.Applies.{tables_left}
 use Rattle.path_flush.specs.OwnWrites.{writes_of}
@@ -111,6 +91,8 @@ invariant_of-seat g c =
           ∙ (ap (λ (l : List (ℕ × Slot g.row.K.Denot)). rest l) put.kept
           ∙ ap (λ (l : List (ℕ × Slot g.row.K.Denot)). rest l) s.carries);
       rests = c.deposit-found.ensures.rests;
+      paid = subst (λ (v : View). opened_in v.trail ≤ issued_in v.trail) (sym d.view)
+          (subst (λ (v : View). opened_in v.trail ≤ issued_in v.trail) (sym V) s.paid);
     }
 
 pub returns-clause-same : goal.returns-clause-same

@@ -1,10 +1,11 @@
-use Rattle.std.proofs.Common.{ℕ, ◌<◌, ◌^◌, refl, sym, ap, ◌∙◌, subst}
+use Rattle.std.proofs.Common.{ℕ, ◌<◌, ◌^◌, refl, sym, ap, ◌∙◌, subst, ◌≤◌}
 use Rattle.op_core.specs.declared.count.Order.TheVariants.{Write}
 use Rattle.path_core.specs.declared.event.Carried.TheVariants.{Applied}
 use Rattle.path_core.specs.declared.event.Event.TheVariants.{Close}
 use Rattle.path_core.specs.Parts.{HoldsNoTurn}
 use Rattle.path_rule.specs.declared.view.View.{View}
 use Rattle.path_rule.specs.Accepted.{places_of}
+use Rattle.path_rule.specs.Issued.{issued_in, opened_in}
 use Rattle.path_rule.proofs.seats.Staying.{view_columns, free_stays}
 use Rattle.path_flush.specs.OwnWrites.{writes_of}
 use Rattle.write_path.proofs.AppliedAt.{are_applied}
@@ -43,6 +44,7 @@ invariant_of-result g c =
       free = subst (λ (v : View). HoldsNoTurn v.part) (sym d.view)
           (free_stays e v.part _ C refl (λ t b. refl) s.free);
       bare = c.leave_placed-found.ensures.same.2 ∙ s.bare;
+      paid = subst (λ (v : View). opened_in v.trail ≤ issued_in v.trail) (sym d.view) s.paid;
     }
 
 pub returns-clause-same : goal.returns-clause-same

@@ -1,8 +1,11 @@
-use Rattle.std.proofs.Common.{◌∙◌}
+use Rattle.std.proofs.Common.{ap, ◌∙◌}
 use Rattle.op_core.specs.declared.count.Order.TheVariants.{Append}
 use Rattle.path_core.specs.declared.event.Carried.TheVariants.{Deposit}
 use Rattle.path_core.specs.declared.event.Event.TheVariants.{Close}
+use Rattle.path_rule.specs.declared.view.View.{View}
+use Rattle.path_rule.specs.Issued.{issued_in}
 use Rattle.write_path.proofs.Growing.{ended, one_step, then_kept}
+use Rattle.write_path.proofs.Paying.{ended_issues}
 use Rattle.write_path.proofs.Sealing.{ends_last}
 use Rattle.write_path.proofs.seats.WritePath.log_claimed.Goals as goal
 
@@ -31,3 +34,8 @@ returns-clause-logged g c = let L = c.deposit-deposited.ensures.listed in
       kept = G.1;
       unswitched = G.2;
     }
+
+pub returns-clause-issued : goal.returns-clause-issued
+returns-clause-issued g c = let D = c.deposit-deposited in
+    ended_issues D.result.0 c.end_write-seat.result.member c.end_write-seat.ensures.ends
+    ∙ ap (λ (v : View). issued_in v.trail) D.ensures.step.2.view

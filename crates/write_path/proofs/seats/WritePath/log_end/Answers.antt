@@ -1,7 +1,8 @@
-use Rattle.std.proofs.Common.{refl, ap, ◌∙◌}
+use Rattle.std.proofs.Common.{◌≤◌, refl, sym, ap, ◌∙◌, subst}
 use Rattle.path_core.specs.declared.event.Event.TheVariants.{Look}
 use Rattle.path_core.specs.declared.event.Place.TheVariants.{Log}
 use Rattle.path_rule.specs.declared.view.View.{View}
+use Rattle.path_rule.specs.Issued.{issued_in, opened_in}
 use Rattle.path_rule.proofs.seats.RoundsGo.{one}
 use Rattle.write_path.proofs.SyncLists.{looked_at}
 use Rattle.write_path.proofs.seats.WritePath.log_end.Goals as goal
@@ -21,6 +22,8 @@ invariant_of-result g c = let E = c.look_end-end.ensures in let seat = c.args.se
         flush = R.flush;
       };
       bare = E.same.2 ∙ seat.bare;
+      paid = subst (λ (u : View). opened_in u.trail ≤ issued_in u.trail) (sym E.step.view)
+          seat.paid;
     }
 
 pub returns-clause-found : goal.returns-clause-found

@@ -1,16 +1,15 @@
 use Rattle.std.proofs.Common.{refl}
-use mathlib.Core.Logic.{inr}
 use Rattle.write_path.proofs.Trying.{end_of}
 use Rattle.write_path.proofs.TriedOnce.{still_deposited, tried_once}
 use Rattle.write_path.proofs.seats.WritePath.look_at.Goals as goal
 
 pub look_bound-requires-clause-known : goal.look_bound-requires-clause-known
-look_bound-requires-clause-known g c = (c.requires.tried.0, inr c.requires.tried.1)
+look_bound-requires-clause-known g c = (c.requires.tried.0, c.requires.tried.1)
 
 pub invariant_of-seat : goal.invariant_of-seat
 invariant_of-seat g c = let L = c.look_bound.ensures in
     still_deposited c.args.seat.now L.step L.same.2
-    (refl, refl, refl, refl, refl, (λ t b. refl), tt)
+    (refl, refl, refl, refl, refl, (λ t b. refl), tt, refl, refl)
 
 pub returns-clause-same : goal.returns-clause-same
 returns-clause-same g c = let L = c.look_bound.ensures in

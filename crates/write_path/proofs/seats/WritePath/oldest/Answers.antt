@@ -7,7 +7,7 @@ use Rattle.write_path.proofs.seats.WritePath.oldest.Goals as goal
 pub invariant_of-seat : goal.invariant_of-seat
 invariant_of-seat g c = let L = c.look_oldest_live.ensures in
     still_deposited c.args.seat.now L.step L.same.2
-    (refl, refl, refl, refl, refl, (λ t b. refl), tt)
+    (refl, refl, refl, refl, refl, (λ t b. refl), tt, refl, refl)
 
 pub returns-clause-same : goal.returns-clause-same
 returns-clause-same g c = let L = c.look_oldest_live.ensures in

@@ -13,7 +13,7 @@ raise_bound-requires-clause-writer g c = let s = c.args.seat.now in record {
 pub invariant_of-seat : goal.invariant_of-seat
 invariant_of-seat g c = let L = c.raise_bound.ensures in
     still_deposited c.args.seat.now L.step L.same.2
-    (refl, refl, refl, refl, refl, (λ t b. refl), tt)
+    (refl, refl, refl, refl, refl, (λ t b. refl), tt, refl, refl)
 
 pub returns-clause-same : goal.returns-clause-same
 returns-clause-same g c = let L = c.raise_bound.ensures in

@@ -1,4 +1,4 @@
-use Rattle.std.proofs.Common.{refl, sym, ap, ◌∙◌, subst}
+use Rattle.std.proofs.Common.{refl, sym, ap, ◌∙◌, subst, ◌≤◌}
 use Rattle.atomic_table.specs.Table.{rest}
 use Rattle.op_core.specs.declared.count.Order.TheVariants.{Append}
 use Rattle.path_core.specs.declared.event.Carried.TheVariants.{Nothing}
@@ -6,6 +6,7 @@ use Rattle.path_core.specs.declared.event.Event.TheVariants.{Close}
 use Rattle.path_core.specs.Parts.{HoldsNoTurn}
 use Rattle.path_rule.specs.declared.view.View.{View}
 use Rattle.path_rule.specs.Boxes.{box_of}
+use Rattle.path_rule.specs.Issued.{issued_in, opened_in}
 use Rattle.path_rule.proofs.seats.Staying.{view_columns, free_stays}
 use Rattle.write_path.proofs.BoxKept.{carries_notes}
 use Rattle.write_path.proofs.seats.WritePath.stop_append.Goals as goal
@@ -29,4 +30,5 @@ invariant_of-result g c =
       free = subst (λ (v : View). HoldsNoTurn v.part) (sym d.view)
           (free_stays e v.part _ C refl (λ t b. refl) s.free);
       bare = c.withdraw-found.ensures.same.2 ∙ ap (λ l. rest l) s.carries;
+      paid = subst (λ (v : View). opened_in v.trail ≤ issued_in v.trail) (sym d.view) s.paid;
     }

@@ -1,23 +1,5 @@
-use Rattle.std.proofs.Common.{
-  ◌≡◌,
-  ◌+◌,
-  ◌-◌,
-  ℕ,
-  ◌^◌,
-  ◌<◌,
-  ◌≤◌,
-  [],
-  ◌∷◌,
-  length,
-  Option,
-  Some,
-  refl,
-  sym,
-  ap,
-  ◌∙◌,
-  subst,
-  arith,
-}
+use Rattle.std.proofs.Common.{◌≡◌, ◌+◌, ◌-◌, ℕ, ◌^◌, ◌<◌, ◌≤◌, [], ◌∷◌, length, Option, Some, refl}
+use Rattle.std.proofs.Common.{sym, ap, ◌∙◌, subst, arith}
 use Rattle.path_core.specs.declared.event.ClaimKind.TheVariants.{Entry}
 use Rattle.path_core.specs.declared.event.Event.TheVariants.{Look, Claim}
 use Rattle.path_core.specs.declared.event.Place.TheVariants.{Log}
@@ -30,6 +12,7 @@ use Rattle.path_rule.specs.declared.view.View.{View}
 use Rattle.path_rule.specs.Boxes.{box_of}
 use Rattle.path_rule.specs.Calls.{Did}
 use Rattle.path_rule.specs.Rule.{view_after}
+use Rattle.path_rule.specs.Issued.{issued_in, opened_in}
 use Rattle.path_rule.proofs.seats.Staying.{view_columns, free_stays}
 use Rattle.write_path.proofs.ClaimBehind.{claim_behind}
 use Rattle.write_path.proofs.seats.WritePath.try_claim.Goals as goal
@@ -49,6 +32,7 @@ invariant_of-seat g c =
         Notes (sym (ap (λ (v : View). v.hands.notes) L.step.view) i),
       ) ∷ []));
       few = subst (λ (v : View). length v.hands.notes ≤ 2 ^ 62) (sym L.step.view) s.few;
+      paid = subst (λ (v : View). opened_in v.trail ≤ issued_in v.trail) (sym L.step.view) s.paid;
     }
 
 pub invariant_of-seat-else-found-looked : goal.invariant_of-seat-else-found-looked
@@ -77,6 +61,8 @@ invariant_of-seat-else-found-looked g c =
       ) ∷ [])));
       few = subst (λ (v : View). length v.hands.notes ≤ 2 ^ 62) (sym D.view)
           (subst (λ (v : View). length v.hands.notes ≤ 2 ^ 62) (sym L.step.view) s.few);
+      paid = subst (λ (v : View). opened_in v.trail ≤ issued_in v.trail) (sym D.view)
+          (subst (λ (v : View). opened_in v.trail ≤ issued_in v.trail) (sym L.step.view) s.paid);
     }
 
 pub invariant_of-result : goal.invariant_of-result
@@ -109,6 +95,8 @@ invariant_of-result g c =
       ) ∷ [])));
       few = subst (λ (v : View). length v.hands.notes ≤ 2 ^ 62) (sym D.view)
           (subst (λ (v : View). length v.hands.notes ≤ 2 ^ 62) (sym L.step.view) s.few);
+      paid = subst (λ (v : View). opened_in v.trail ≤ issued_in v.trail) (sym D.view)
+          (subst (λ (v : View). opened_in v.trail ≤ issued_in v.trail) (sym L.step.view) s.paid);
     }
 
 pub returns-then-found-looked-clause-step : goal.returns-then-found-looked-clause-step

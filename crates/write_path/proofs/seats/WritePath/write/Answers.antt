@@ -73,3 +73,11 @@ returns-in-Err-clause-written g c =
       G.1,
       G.2,
     )
+
+pub returns-in-Ok-clause-issued : goal.returns-in-Ok-clause-issued
+returns-in-Ok-clause-issued g c = c.log_claimed.ensures.issued ∙ (c.in-Ok.ensures.claim.0.5
+    ∙ (c.append-appending.ensures.0.5 ∙ c.start-begun.ensures.0.5))
+
+pub returns-in-Err-clause-issued : goal.returns-in-Err-clause-issued
+returns-in-Err-clause-issued g c = c.leave.ensures.same.5 ∙ (c.in-Err.ensures.claim.0.5
+    ∙ (c.append-appending.ensures.0.5 ∙ c.start-begun.ensures.0.5))
