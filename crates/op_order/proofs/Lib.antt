@@ -1,0 +1,12 @@
+mod Barriers
+mod Begins
+mod Chains
+mod Counts
+mod Oldest
+mod Publishing
+mod Readers
+mod Registers
+mod Rings
+mod States
+mod Windows
+mod Words

@@ -1,0 +1,24 @@
+use Rattle.std.proofs.Common.{◌≡◌, ℕ, suc, ◌+◌, ◌*◌, ◌%◌, sym, ap, ◌∙◌, subst, arith}
+use mathlib.Core.Option.{none}
+use Rattle.atomic_table.specs.Table.{step, Allows}
+use Rattle.op_order.specs.Rule.{Ruled, count_at}
+use Rattle.op_order.specs.Parts.{part_of}
+use Rattle.op_order.specs.Told as told
+use Rattle.op_order.proofs.Barriers.{opens}
+use Rattle.op_order.proofs.table.OpOrder.open_group.Goals as goal
+
+pub store-requires : goal.store-requires
+store-requires g c = let t = c.args.self.now in let z = c.args.seat.now in
+    let k = t.table.shared.key.places in let n = t.table.shared.table_id.slots in
+    let wide = t.wide in
+    let inside = c.count_at.ensures.inside in
+    let at : c.count_at.result ≡ count_at k c.args.group = c.count_at.ensures.at
+    ∙ ap (λ p. 3 + p + c.args.group % suc p) (sym t.keyed) in (
+      c.requires.seat.0,
+      omega arith,
+      subst (λ (i : ℕ). Allows (Ruled g.F.Fact.fits k) n z.id z.me i (λ _. 65536 * c.args.group)
+          (λ _. told.opened (step n i (65536 * c.args.group) 0 none) z.me (65536 * c.args.group)))
+          (sym at)
+          (opens g.F.Fact.fits k n z.id z.me (part_of z) (ap (λ m. m.0) c.requires.seat.1)
+          c.args.group c.requires.stage c.requires.group.0),
+    )

@@ -1,0 +1,11 @@
+pub mod Groups
+pub mod Law
+pub mod Moments
+pub mod Opened
+pub mod Operations
+pub mod Owners
+pub mod Parts
+pub mod Places
+pub mod Ring
+pub mod Rule
+pub mod Told
