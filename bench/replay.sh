@@ -1,11 +1,15 @@
 #!/bin/sh
 # Time and peak memory of `replay` with 1, 2 and 4 workers, the least of five runs: for entries of
-# one update over 1,000 keys, for entries with distinct keys, and for two segments of small entries
-# with distinct keys that have nearly 64 MiB together. The time is that of the whole program, with
-# its start and the printing of the cells. Needs GNU time and a built program. No part of the gate.
+# one update over 1,000 keys, for entries with distinct keys, for two segments of small entries with
+# distinct keys that have nearly 64 MiB together, and for sixteen segments over 1,000 keys. The time
+# is that of the whole program, with its start and the printing of the cells. Needs GNU time and a
+# built program. No part of the gate.
+#
+#     replay.sh [PROGRAM ..]      several programs, as before and after a change, take turns
 set -e
 top=$(cd "$(dirname "$0")/.." && pwd)
 . "$top/bench/setup.sh"
+programs=${*:-$program}
 
 # so many lines over 1,000 keys
 few_keys() {
@@ -26,22 +30,34 @@ segment() {
     mv "$work"/made/commitlog/* "$work/run/commitlog"
 }
 
-# the microseconds and the KiB that a run takes
+# the microseconds and the KiB that a run of a program takes
 run() {
     start=$(date +%s%N)
-    (cd "$work/run" && /usr/bin/time -f %M -o "$work/memory" "$program" replay --workers "$1") \
+    (cd "$work/run" && /usr/bin/time -f %M -o "$work/memory" "$1" replay --workers "$2") \
         >"$work/out"
     end=$(date +%s%N)
     echo "$(((end - start) / 1000)) $(cat "$work/memory")"
 }
 
+# one line for each program, of its best run; the programs take turns
 measure() {
     for workers in 1 2 4; do
-        best=$(for again in 1 2 3 4 5; do run $workers; done | sort -n | head -n 1)
+        rm -f "$work"/best.*
+        for again in 1 2 3 4 5; do
+            at=0
+            for measured in $programs; do
+                at=$((at + 1))
+                run "$measured" $workers >>"$work/best.$at"
+            done
+        done
         entries=$(awk '$1 == "entries" { print $2 }' "$work/out")
-        echo "$best" | awk -v what="$1" -v workers=$workers -v n="$entries" \
-            '{ printf "%-22s %7d entries, %d workers: %5.2f us an entry, %7d KiB\n", what, n,
-                workers, $1 / n, $2 }'
+        at=0
+        for measured in $programs; do
+            at=$((at + 1))
+            sort -n "$work/best.$at" | head -n 1 | awk -v what="$1" -v workers=$workers \
+                -v n="$entries" -v at=$at '{ printf "%-22s %8d entries, %d workers, program %d: " \
+                    "%5.2f us an entry, %7d KiB\n", what, n, workers, at, $1 / n, $2 }'
+        done
     done
     rm -rf "$work/run"
 }
@@ -57,3 +73,7 @@ done
 begun_with 560000 one | segment
 begun_with 560000 two | segment
 measure "two segments, distinct"
+for number in 1 2 3 4 5 6 7 8 9 10 11 12 13 14 15 16; do
+    few_keys 600000 | segment
+done
+measure "sixteen segments"

@@ -64,8 +64,8 @@ fn is_soft(cause: Cause) -> bool
 }
 
 /// Whether a segment ends as it may: clean, or as a crash leaves the last one. Where damage is
-/// passed over, it may end in any way.
-fn judge_end(name: &Name, end: End, last: bool, ignore: bool) -> Result<(), OpenFault>
+/// passed over, it may end in any way. `Damaged` is the only refusal.
+pub fn judge_end(name: &Name, end: End, last: bool, ignore: bool) -> Result<(), OpenFault>
     ensures { JudgesEnd ignore last name.now end result }
 {
     match end {

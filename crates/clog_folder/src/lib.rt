@@ -15,9 +15,13 @@ mod segments;
 mod tables;
 mod whole;
 
+pub use entries::judge_end;
 pub use fault::{OpenFault, fault_of};
 pub use folder::{Folder, read_folder};
-pub use listing::{SegmentNames, TableNames, segment_names, table_names};
+pub use listing::{
+    SegmentNames, TableNames, count_segments, count_tables, segment_names, table_names,
+};
 pub use segment::{SegmentHeld, segment_bytes};
-pub use tables::TableHeld;
+pub use segments::greatest_id;
+pub use tables::{TableHeld, read_tables};
 pub use whole::read_whole;

@@ -27,7 +27,7 @@ fn is_table(name: &Name) -> bool
 }
 
 /// How many of the names are those of segments, of any version.
-pub(crate) fn count_segments(names: &[Name]) -> usize
+pub fn count_segments(names: &[Name]) -> usize
     ensures { IsCount IsNameOfSegment names.now result }
 {
     let mut count = 0;
@@ -40,7 +40,7 @@ pub(crate) fn count_segments(names: &[Name]) -> usize
 }
 
 /// How many of the names are those of table files.
-pub(crate) fn count_tables(names: &[Name]) -> usize
+pub fn count_tables(names: &[Name]) -> usize
     ensures { IsCount IsNameOfTable names.now result }
 {
     let mut count = 0;

@@ -12,7 +12,7 @@ use clog_disk::Disk;
 use std::alloc::Global;
 
 /// The greatest id of a segment; 0 where there is none.
-fn greatest_id(names: &SegmentNames) -> u64
+pub fn greatest_id(names: &SegmentNames) -> u64
     ensures { IsGreatestId names.now.entries result }
 {
     match names.last_key_value() {

@@ -49,7 +49,11 @@ fn read_table<D: Disk>(
 }
 
 /// The table files of these names, of which each is there, in their order.
-pub(crate) fn read_tables<D: Disk>(
+///
+/// - `Disk`: the disk's count of faults has risen in this call.
+/// - `BadTable`: the first file that is none.
+/// - `OutOfMemory`: memory was refused.
+pub fn read_tables<D: Disk>(
     alloc: Global,
     disk: &mut D,
     names: TableNames,

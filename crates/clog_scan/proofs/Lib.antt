@@ -1,6 +1,10 @@
 pub mod Appended
 pub mod Behind
 pub mod EntryMembers
+pub mod Fed
+pub mod Header
+pub mod Coming
+pub mod Nexts
 pub mod NotBehind
 pub mod Order
 pub mod Reached
@@ -10,3 +14,5 @@ pub mod Theorems
 pub mod Total
 pub mod Trace
 pub mod Written
+pub mod WalkedSo
+pub mod WindowLaws

@@ -64,6 +64,7 @@ use Rattle.clog_scan.proofs.Sections.{
   held_from-items_of,
 }
 use Rattle.clog_spec.specs.Sizes.{header_size}
+use Rattle.clog_scan.specs.Walks.{HasCome}
 
 -- behind the header of a front stand its sections
 behind_header : (bytes : List ℕ) (id : ℕ) (ss : List Section) → IsFront bytes id (Some ss)
@@ -135,6 +136,29 @@ front_by_way bytes id items at until header way =
       };
       place = ends;
       end = parts.end_is;
+    }
+
+-- a way behind the header comes to its place
+pub come_by_way : (bytes : List ℕ) (id : ℕ) (items : List Item) (at until : ℕ)
+    → IsHeaderAt bytes id → Trace bytes id header_size header_size items at until → at ≤ until
+    → until ≤ length bytes → HasCome bytes id at until (held_from header_size items)
+unfolding front_by_way
+come_by_way bytes id items at until header way order within =
+    let reached = front_by_way bytes id items at until header way in
+    let ss = sections_of items in
+    let parts = splits bytes id header_size header_size items at until (omega arith) way in
+    let none : payloads_of items ≡ [] =
+    none_before bytes id header_size header_size items at until way refl in
+    record {
+      header = header;
+      sections = ss;
+      front = reached.front;
+      place = reached.place;
+      end = reached.end;
+      given_are = parts.entries
+          ∙ ap (λ ps. entries_from header_size ps ++ entries_of header_size ss) none;
+      order = order;
+      within = within;
     }
 
 -- a way that stops tells what the bytes hold

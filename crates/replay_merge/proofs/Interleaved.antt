@@ -1,47 +1,11 @@
--- Lists that are dealt out in turn, and what is joined of the parts.
-use Rattle.std.proofs.Common.{
-  ◌≡◌,
-  ◌⊎◌,
-  ℕ,
-  suc,
-  ◌+◌,
-  ◌%◌,
-  ◌<◌,
-  List,
-  [],
-  ◌∷◌,
-  ◌++◌,
-  length,
-  map,
-  Bool,
-  true,
-  false,
-  cond,
-  eqb,
-  ltb,
-  Contains,
-  refl,
-  sym,
-  ap,
-  subst,
-  ◌∙◌,
-  inl,
-  inr,
-  arith,
-}
-use Rattle.std.proofs.Common.{eq-eqb}
-use Rattle.std.specs.Prelude.{◌&&◌}
+-- Lists that are parted by a test of the number, and what is joined of the parts.
+use Rattle.std.proofs.Common.{◌≡◌, ◌⊎◌, ℕ, suc, ◌+◌, ◌%◌, List, [], ◌∷◌, ◌++◌, length, map}
+use Rattle.std.proofs.Common.{Bool, true, false, cond, eqb, ltb, Contains, refl, sym, ap, subst}
+use Rattle.std.proofs.Common.{◌∙◌, inl, inr, arith}
 use Rattle.std.specs.List.{flat_map}
 use Rattle.std.proofs.lemmas.Bool.{ltb-true, ltb-false, lt-ltb, le-ltb, eqb-true, eqb-false}
 use Rattle.clog_base.proofs.Members.{first_or_further, further, here, nothing_there}
-use Rattle.replay_merge.specs.Dealt.{
-  numbered,
-  is_dealt_below,
-  is_dealt_to,
-  is_taken_before,
-  is_taken_in,
-  round_of,
-}
+use Rattle.replay_merge.specs.Rounds.{is_before_round, is_in_round, numbered}
 
 -- the third list is the first two, each in its order, one between the other
 abbrev pub Interleaves : {A : Type 0} → List A → List A → List A → Type 0
@@ -50,7 +14,7 @@ Interleaves us vs (w ∷ ws) =
     ((rest : List _) × (us ≡ w ∷ rest) × Interleaves rest vs ws)
     ⊎ ((rest : List _) × (vs ≡ w ∷ rest) × Interleaves us rest ws)
 
--- ---- dealing
+-- ---- parting
 
 -- the third test is passed where one of the first two is, and never both are
 abbrev Parts : Bool → Bool → Bool → Type 0
@@ -91,14 +55,6 @@ parts_by false false true m k below same up =
     (let l = ltb-false m k below in let e = ltb-true m (k + 1) up in omega (arith, l, e)))
 parts_by false false false m k below same up = tt
 
--- one worker's share more
-pub dealt_more : {A : Type 0} (workers k : ℕ) (xs : List A)
-    → Interleaves (numbered (is_dealt_below workers k) 0 xs)
-    (numbered (is_dealt_to workers k) 0 xs) (numbered (is_dealt_below workers (k + 1)) 0 xs)
-dealt_more workers k xs =
-    deal (is_dealt_below workers k) (is_dealt_to workers k) (is_dealt_below workers (k + 1))
-    (λ n. parts_by _ _ _ (n % workers) k refl refl refl) 0 xs
-
 numbered_none : {A : Type 0} (P : ℕ → Bool) → ((n : ℕ) → P n ≡ false) → (n : ℕ) (xs : List A)
     → numbered P n xs ≡ []
 numbered_none P none n [] = refl
@@ -113,42 +69,21 @@ numbered_all P all n (x ∷ xs) =
     ap (λ b. cond b (x ∷ numbered P (n + 1) xs) (numbered P (n + 1) xs)) (all n)
     ∙ ap (λ l. x ∷ l) (numbered_all P all (n + 1) xs)
 
--- ---- the rounds of one worker
+-- ---- the rounds
 
-parts_within : (b p q r : Bool) → Parts p q r → Parts (b && p) (b && q) (b && r)
-parts_within true p q r parts = parts
-parts_within false p q r parts = tt
+pub round_more : {A : Type 0} (k : ℕ) (xs : List A)
+    → Interleaves (numbered (is_before_round k) 0 xs) (numbered (is_in_round k) 0 xs)
+    (numbered (is_before_round (k + 1)) 0 xs)
+round_more k xs =
+    deal (is_before_round k) (is_in_round k) (is_before_round (k + 1))
+    (λ n. parts_by _ _ _ (n % 3) k refl refl refl) 0 xs
 
-pub round_more : {A : Type 0} (workers worker k : ℕ) (xs : List A)
-    → Interleaves (numbered (is_taken_before workers worker k) 0 xs)
-    (numbered (is_taken_in workers worker k) 0 xs)
-    (numbered (is_taken_before workers worker (k + 1)) 0 xs)
-round_more workers worker k xs =
-    deal (is_taken_before workers worker k) (is_taken_in workers worker k)
-    (is_taken_before workers worker (k + 1))
-    (λ n. parts_within (is_dealt_to workers worker n) _ _ _
-    (parts_by _ _ _ (round_of workers n) k refl refl refl)) 0 xs
+pub rounds_none : {A : Type 0} (xs : List A) → numbered (is_before_round 0) 0 xs ≡ []
+rounds_none xs =
+    numbered_none (is_before_round 0) (λ n. le-ltb (n % 3) 0 (omega arith)) 0 xs
 
-pub dealt_none : {A : Type 0} (workers : ℕ) (xs : List A)
-    → numbered (is_dealt_below workers 0) 0 xs ≡ []
-dealt_none workers xs =
-    numbered_none (is_dealt_below workers 0) (λ n. le-ltb (n % workers) 0 (omega arith)) 0 xs
-
-pub dealt_all : {A : Type 0} (workers : ℕ) (xs : List A) → 0 < workers
-    → numbered (is_dealt_below workers workers) 0 xs ≡ xs
-dealt_all workers xs some =
-    numbered_all (is_dealt_below workers workers)
-    (λ n. lt-ltb (n % workers) workers (omega (arith, some))) 0 xs
-
-pub rounds_none : {A : Type 0} (workers worker : ℕ) (xs : List A)
-    → numbered (is_taken_before workers worker 0) 0 xs ≡ []
-rounds_none workers worker xs =
-    numbered_none (is_taken_before workers worker 0)
-    (λ n. never (is_dealt_to workers worker n) (round_of workers n)) 0 xs
-  where
-    never : (b : Bool) (m : ℕ) → b && ltb m 0 ≡ false
-    never true m = le-ltb m 0 (omega arith)
-    never false m = refl
+pub rounds_all : {A : Type 0} (xs : List A) → numbered (is_before_round 3) 0 xs ≡ xs
+rounds_all xs = numbered_all (is_before_round 3) (λ n. lt-ltb (n % 3) 3 (omega arith)) 0 xs
 
 -- ---- one more, and several more, of those that are numbered
 
@@ -257,12 +192,3 @@ interleaved_flat f us vs (w ∷ ws) (inr is) =
     (sym (ap (flat_map f) is.1))
     (led_right (f w) (flat_map f us) (flat_map f is.0) (flat_map f ws)
     (interleaved_flat f us is.0 ws is.2))
-
--- ---- one worker takes all
-
-pub one_share : {A : Type 0} (n : ℕ) (xs : List A) → numbered (is_dealt_to 1 0) n xs ≡ xs
-one_share n [] = refl
-one_share n (x ∷ xs) =
-    ap (λ (b : Bool). cond b (x ∷ numbered (is_dealt_to 1 0) (n + 1) xs)
-    (numbered (is_dealt_to 1 0) (n + 1) xs)) (eq-eqb (n % 1) 0 (omega arith))
-    ∙ ap (λ l. x ∷ l) (one_share (n + 1) xs)

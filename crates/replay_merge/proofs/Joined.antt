@@ -1,66 +1,25 @@
 -- What two workers have of interleaved entries is what one would have of all of them.
-use Rattle.std.proofs.Common.{
-  ◌≡◌,
-  ℕ,
-  ◌+◌,
-  List,
-  [],
-  ◌∷◌,
-  ◌++◌,
-  length,
-  map,
-  get_or,
-  length-append,
-  ◌<◌,
-  Ok as ok,
-  refl,
-  sym,
-  ap,
-  subst,
-  ◌∙◌,
-  inl,
-  inr,
-  arith,
-}
+use Rattle.std.proofs.Common.{◌≡◌, List, [], ◌∷◌, ◌++◌, length, map, length-append, refl}
+use Rattle.std.proofs.Common.{sym, ap, subst, ◌∙◌, inl, inr, arith}
 use Rattle.std.specs.List.{flat_map}
 use Rattle.std.proofs.lemmas.List.{map-append}
-use Rattle.std.proofs.lemmas.List.Elements.{
-  Contains-append_cases,
-  Contains-append_left,
-  Contains-append_right,
-}
-use Rattle.std.proofs.Math.Seq.{get_or-append_seam}
+use Rattle.std.proofs.lemmas.List.Elements.{Contains-append_cases, Contains-append_left}
+use Rattle.std.proofs.lemmas.List.Elements.{Contains-append_right}
 use Rattle.clog_base.specs.declared.cell.Cell.{Cell}
 use Rattle.clog_base.specs.declared.cell.CellKey.{CellKey}
 use Rattle.clog_cells.specs.Merge.{IsMerge}
 use Rattle.clog_cells.proofs.Merging.{joins, of_members}
 use Rattle.clog_crash.specs.Counts.{LoggedMutation}
 use Rattle.clog_folder.specs.declared.tables.TableHeld.{TableHeld}
-use Rattle.clog_folder.specs.declared.segment.SegmentHeld.{SegmentHeld}
-use Rattle.clog_folder.specs.Folder.{PlacedPayload, Say, payloads_of}
+use Rattle.clog_folder.specs.Folder.{PlacedPayload, Say}
 use Rattle.clog_folder.specs.Listing.{Picks}
 use Rattle.replay_merge.specs.declared.merged.Merged.{Merged}
-use Rattle.replay_merge.specs.Merged.{
-  IsJoin,
-  IsMergedOf,
-  IsSkippedBy,
-  KeyedUpdate,
-  pair_at,
-  updates_of,
-}
-use Rattle.replay_merge.specs.Dealt.{is_dealt_below, numbered, share_of}
+use Rattle.replay_merge.specs.Merged.{IsJoin, IsMergedOf, IsSkippedBy, KeyedUpdate, pair_at}
+use Rattle.replay_merge.specs.Merged.{updates_of}
 use Rattle.replay_merge.specs.Taking.{IsTakenOf, TakesLog}
-use Rattle.replay_merge.specs.Working.{AreParts, IsPart, Part}
-use Rattle.replay_merge.proofs.Interleaved.{
-  Interleaves,
-  dealt_more,
-  from_interleaved,
-  interleaved_flat,
-  interleaved_length,
-  interleaved_map,
-  left_interleaved,
-  right_interleaved,
-}
+use Rattle.replay_merge.proofs.Interleaved.{Interleaves, from_interleaved}
+use Rattle.replay_merge.proofs.Interleaved.{interleaved_flat, interleaved_length, interleaved_map}
+use Rattle.replay_merge.proofs.Interleaved.{left_interleaved, right_interleaved}
 
 abbrev Pairs : Type 0
 Pairs = List (CellKey × Cell)
@@ -106,7 +65,7 @@ picks_parts P us vs (w ∷ ws) left right first second (inr is) =
     ]
 
 -- what is picked of a list and one behind it
-picks_split : {A : Type 0} (P : A → Type 0) (us vs picked : List A) → Picks P (us ++ vs) picked
+pub picks_split : {A : Type 0} (P : A → Type 0) (us vs picked : List A) → Picks P (us ++ vs) picked
     → (left right : List A) × (picked ≡ left ++ right) × Picks P us left × Picks P vs right
 picks_split P [] vs picked is = ([], picked, refl, refl, is)
 picks_split P (u ∷ us) vs picked (inl has) =
@@ -241,44 +200,3 @@ module _ (tables : List TableHeld) where
             (more.takes (flat_map updates_of has.log) has.taken)
             (interleaved_flat updates_of has.log more.log all.0 all.2);
       }
-
--- ---- the workers' parts, one after another
-
--- the part that comes next is its worker's
-next_is_part : (tables : List TableHeld) (segments : List SegmentHeld) (workers : ℕ)
-    (parts yielded rest : List Part) (next : Part) → AreParts tables segments workers parts
-    → parts ≡ yielded ++ next ∷ rest → IsPart tables segments workers (length yielded) next
-next_is_part tables segments workers parts yielded rest next are is =
-    let long : length yielded < length (yielded ++ next ∷ rest) =
-    omega (arith, length-append yielded (next ∷ rest)) in
-    let below : length yielded < workers =
-    subst (λ k. length yielded < k) are.count
-    (subst (λ (l : List Part). length yielded < length l) (sym is) long) in
-    let here = are.each (length yielded) next below in
-    let same : get_or parts (length yielded) next ≡ next =
-    ap (λ (l : List Part). get_or l (length yielded) next) is
-    ∙ get_or-append_seam yielded next rest next in
-    subst (λ (part : Part). IsPart tables segments workers (length yielded) part) same here
-
--- one worker's part more is joined
-pub part_joined : (tables : List TableHeld) (segments : List SegmentHeld) (workers : ℕ)
-    (parts yielded rest : List Part) (next : Part) (mine other joined : Merged)
-    → AreParts tables segments workers parts → parts ≡ yielded ++ next ∷ rest → next ≡ ok other
-    → IsTakenOf tables
-    (numbered (is_dealt_below workers (length yielded)) 0 (flat_map payloads_of segments)) mine
-    → IsJoin mine other joined
-    → IsTakenOf tables
-    (numbered (is_dealt_below workers (length (yielded ++ next ∷ []))) 0
-    (flat_map payloads_of segments)) joined
-part_joined tables segments workers parts yielded rest next mine other joined are is good so_far
-    join =
-    let ps = flat_map payloads_of segments in
-    let k = length yielded in
-    let has : IsTakenOf tables (share_of workers k ps) other =
-    subst (λ (part : Part). IsPart tables segments workers k part) good
-    (next_is_part tables segments workers parts yielded rest next are is) in
-    subst (λ n. IsTakenOf tables (numbered (is_dealt_below workers n) 0 ps) joined)
-    (sym (length-append yielded (next ∷ [])))
-    (taken_both tables (numbered (is_dealt_below workers k) 0 ps) (share_of workers k ps)
-    (numbered (is_dealt_below workers (k + 1)) 0 ps) mine other joined so_far has
-    (dealt_more workers k ps) join)

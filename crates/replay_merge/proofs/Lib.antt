@@ -1,4 +1,12 @@
+pub mod DoneSo
 pub mod Interleaved
 pub mod Joined
+pub mod Kept
+pub mod NoneTaken
+pub mod PlacesRead
+pub mod Reordered
 pub mod Replayed
+pub mod Settled
+pub mod Stopped
+pub mod Streamed
 pub mod Taken

@@ -1,113 +1,54 @@
 -- What was merged is what the folder restores to, and what was counted is its counts.
-use Rattle.std.proofs.Common.{
-  ◌≡◌,
-  ℕ,
-  ◌+◌,
-  suc,
-  List,
-  [],
-  ◌∷◌,
-  ◌++◌,
-  length,
-  map,
-  take,
-  drop,
-  get_or,
-  ◌<◌,
-  ◌≤◌,
-  All,
-  append_assoc,
-  length-append,
-  Option,
-  Some,
-  None,
-  Contains,
-  refl,
-  sym,
-  ap,
-  subst,
-  ◌∙◌,
-  inl,
-  inr,
-  arith,
-}
+use Rattle.std.proofs.Common.{◌≡◌, ℕ, ◌+◌, suc, List, [], ◌∷◌, ◌++◌, length, map, take, drop}
+use Rattle.std.proofs.Common.{get_or, ◌<◌, ◌≤◌, All, append_assoc, length-append, Option, Some}
+use Rattle.std.proofs.Common.{None, Contains, refl, sym, ap, subst, ◌∙◌, inl, inr, arith}
 use Rattle.std.specs.Prelude.{Bool, IfSome}
 use Rattle.std.specs.List.{AllByRecursion, flat_map}
-use Rattle.std.specs.List.Sorted.{IsStrictlySortedBy}
 use Rattle.std.proofs.lemmas.List.{append-nil, length-map, map-append, take-append-drop}
 use Rattle.std.proofs.lemmas.Grind.{flat_map-append}
-use Rattle.std.proofs.lemmas.List.Elements.{
-  All-contains,
-  All-from_recursion,
-  Contains-append_cases,
-  Contains-append_left,
-  Contains-append_right,
-}
+use Rattle.std.proofs.lemmas.List.Elements.{All-contains, All-from_recursion, Contains-append_cases}
+use Rattle.std.proofs.lemmas.List.Elements.{Contains-append_left, Contains-append_right}
 use Rattle.clog_base.specs.declared.cell.Cell.{Cell}
 use Rattle.clog_base.specs.declared.cell.CellKey.{CellKey}
+use Rattle.clog_base.specs.declared.cell.Table.{Table}
 use Rattle.clog_base.specs.declared.position.Position.{Position}
 use Rattle.clog_base.proofs.Members.{from_flat, from_map, further, here, in_flat, in_map}
 use Rattle.clog_cells.specs.Merge.{IsMerge}
-use Rattle.clog_cells.proofs.Merging.{continues, of_itself, of_same}
+use Rattle.clog_cells.proofs.Merging.{continues, of_same}
 use Rattle.clog_disk.specs.Files.{Files}
 use Rattle.clog_mutation.specs.declared.mutation.Update.{Update}
 use Rattle.clog_mutation.proofs.Decoding.{one_mutation}
 use Rattle.clog_scan.specs.Laws.{IsRange}
 use Rattle.clog_table.specs.declared.table_file.TableFile.{TableFile}
-use Rattle.clog_crash.specs.Counts.{
-  HaveIt,
-  IsLog,
-  IsNameOfTable,
-  IsStoodFor,
-  LoggedMutation,
-  PlacedUpdate,
-  updates_of as placed_of,
-}
-use Rattle.clog_crash.specs.Folder.{
-  AreTables,
-  IsNameOfSegment,
-  IsReadFrom,
-  TableRead,
-  cells_in,
-  cells_of_tables,
-}
-use Rattle.clog_crash.specs.Restore.{
-  IsInInterval,
-  IsLoggedCell,
-  IsRestored,
-  IsSkipped,
-  Restores,
-  end_position,
-}
+use Rattle.clog_crash.specs.Counts.{HaveIt, IsLog, IsNameOfTable, IsStoodFor, LoggedMutation}
+use Rattle.clog_crash.specs.Counts.{PlacedUpdate, updates_of as placed_of}
+use Rattle.clog_crash.specs.Folder.{AreTables, IsHeld, IsNameOf, IsNameOfSegment, IsReadFrom}
+use Rattle.clog_crash.specs.Folder.{TableRead, cells_in, cells_of_tables, place_cmp}
+use Rattle.clog_crash.specs.Restore.{IsInInterval, IsLoggedCell, IsRestored, IsSkipped, Restores}
+use Rattle.clog_crash.specs.Restore.{end_position}
 use Rattle.clog_crash.proofs.TableFiles.{in_table_cell, known_read, table_cell_in}
 use Rattle.clog_folder.specs.declared.folder.Folder.{Folder}
 use Rattle.clog_folder.specs.declared.segment.SegmentHeld.{SegmentHeld}
 use Rattle.clog_folder.specs.declared.tables.TableHeld.{TableHeld}
-use Rattle.clog_folder.specs.Folder.{
-  IsHeldOf,
-  IsReadAs,
-  AreNamed,
-  PlacedPayload,
-  Say,
-  payloads_of,
-  placed,
-}
-use Rattle.clog_folder.specs.Listing.{Picks}
-use Rattle.clog_folder.specs.Tables.{read_of}
+use Rattle.clog_folder.specs.Folder.{IsHeldOf, IsReadAs, AreNamed, PlacedPayload, Say, payloads_of}
+use Rattle.clog_folder.specs.Folder.{placed}
+use Rattle.clog_folder.specs.Listing.{AreRows, IsSegmentAt, Picks, segment_cmp}
+use Rattle.clog_folder.specs.Segments.{HaveHeld, Row}
+use Rattle.clog_folder.specs.Tables.{HaveRead, read_of}
 use Rattle.clog_folder.proofs.Counting.{picks_all}
 use Rattle.clog_folder.proofs.EntriesCounted.{picks_have}
+use Rattle.clog_folder.proofs.FolderRead.{is_read_as}
 use Rattle.replay_merge.specs.declared.merged.Merged.{Merged}
+use Rattle.replay_merge.specs.declared.piped.Entry.{Entry as Item}
+use Rattle.replay_merge.specs.declared.piped.Piped.{Piped}
 use Rattle.replay_merge.specs.declared.restoring.Restored.{Restored}
-use Rattle.replay_merge.specs.Merged.{
-  IsMergedOf,
-  IsSkippedBy,
-  KeyedUpdate,
-  keyed,
-  pair_at,
-  updates_of,
-}
+use Rattle.replay_merge.specs.Merged.{IsMergedOf, IsSkippedBy, KeyedUpdate, keyed, pair_at}
+use Rattle.replay_merge.specs.Merged.{updates_of}
+use Rattle.replay_merge.specs.Piped.{IsLeastRefused, placed_of as piped_as}
 use Rattle.replay_merge.specs.Restoring.{IsReplayOf, IsRestoredOf}
-use Rattle.replay_merge.specs.Taking.{AreRanges, IsTakenOf}
+use Rattle.replay_merge.specs.Settling.{HasPiped}
+use Rattle.replay_merge.specs.Taking.{AreRanges}
+use Rattle.replay_merge.proofs.Kept.{keeps_places}
 use Rattle.replay_merge.proofs.Taken.{seen}
 
 abbrev Pairs : Type 0
@@ -286,44 +227,70 @@ module _ (files : Files) (tables : List TableHeld)
 
 -- ---- all
 
-replay_of : (ignore : Bool) (files : Files) (folder : Folder) (restored : Restored)
-    → IsReadAs ignore files (map read_of folder.tables) folder.segments
-    → AreNamed files IsNameOfTable folder.table_names
-    → AreNamed files IsNameOfSegment folder.segment_names → IsRestoredOf folder restored
-    → IsReplayOf ignore files restored
-replay_of ignore files folder restored read tables segments is =
-    let same = one_log (flat_map payloads_of folder.segments) is.log read.log is.say read.say in
+replay_of : (ignore : Bool) (files : Files) (tables : List TableHeld) (helds : List SegmentHeld)
+    (items : List Item) (segment_names table_names : ℕ) (restored : Restored)
+    → IsReadAs ignore files (map read_of tables) helds
+    → AreNamed files IsNameOfTable table_names → AreNamed files IsNameOfSegment segment_names
+    → (is : IsRestoredOf tables items segment_names table_names restored)
+    → flat_map payloads_of helds ≡ map piped_as is.good → IsReplayOf ignore files restored
+replay_of ignore files tables helds items segment_names table_names restored read named segments is
+    payloads =
+    let ps = map piped_as is.good in
+    let same = one_log ps is.log read.log is.say
+    (subst (λ (qs : List PlacedPayload). Say qs read.log) payloads read.say) in
     let is_log : IsLog files is.log = subst (IsLog files) (sym same) read.is_log in
     record {
       readable = read.readable;
-      cells = restores files folder.tables read.are_tables is.log is_log is.merged is.taken
-          restored.cells is.cells;
+      cells = restores files tables read.are_tables is.log is_log is.merged is.taken restored.cells
+          is.cells;
       counts = record {
         segment_names = segments.names;
         segments_all = segments.are;
         segments_are = is.segments ∙ segments.count;
-        table_names = tables.names;
-        tables_all = tables.are;
-        tables_are = is.tables ∙ tables.count;
+        table_names = named.names;
+        tables_all = named.are;
+        tables_are = is.tables_are ∙ named.count;
         log = is.log;
         is_log = is_log;
-        entries_are = is.entries
-            ∙ say_length (flat_map payloads_of folder.segments) is.log is.say;
+        entries_are = is.entries ∙ sym (length-map is.good piped_as) ∙ say_length ps is.log is.say;
         updates_are = subst (HaveIt (λ (u : PlacedUpdate). ¬ IsStoodFor files u)
             (flat_map placed_of is.log)) (sym is.updates)
-            (updates_are files folder.tables read.are_tables is.log is_log is.merged is.taken);
+            (updates_are files tables read.are_tables is.log is_log is.merged is.taken);
         skipped_are = subst (HaveIt (IsStoodFor files) (flat_map placed_of is.log))
             (sym is.skipped)
-            (skipped_are files folder.tables read.are_tables is.log is_log is.merged is.taken);
+            (skipped_are files tables read.are_tables is.log is_log is.merged is.taken);
       };
     }
 
-pub replays : (ignore : Bool) (files : Option Files) (folder : Folder) (restored : Restored)
-    → IsHeldOf ignore files folder → IsRestoredOf folder restored
+abbrev Tables : Type 0
+Tables = List ((Table × ℕ) × List ℕ)
+
+pub replays : (ignore : Bool) (files : Option Files) (tables : List TableHeld)
+    (table_rows : Tables) (rows : List Row) (segment_names table_names : ℕ) (s : Piped)
+    (restored : Restored)
+    → IfSome files (λ held. AreRows segment_cmp IsSegmentAt (IsHeld held) rows)
+    → IfSome files (λ held. AreRows place_cmp IsNameOf (IsHeld held) table_rows)
+    → HaveRead files table_rows tables → (p : HasPiped ignore files tables rows s)
+    → IfSome files (λ held. AreNamed held IsNameOfTable table_names)
+    → IfSome files (λ held. AreNamed held IsNameOfSegment segment_names)
+    → IsRestoredOf tables p.items segment_names table_names restored
     → IfSome files (λ held. IsReplayOf ignore held restored)
-replays ignore None folder restored held is = tt
-replays ignore (Some files) folder restored held is =
-    replay_of ignore files folder restored held.told held.tables held.segments is
+replays ignore None tables table_rows rows segment_names table_names s restored places table_places
+    read p named segments is =
+    tt
+replays ignore (Some files) tables table_rows rows segment_names table_names s restored places
+    table_places read p named segments is =
+    let given = p.given in
+    let keeps = keeps_places files ignore given.greatest rows p.items is.good given.given is.picks
+    (λ strict. subst (IsLeastRefused p.items) (p.none strict) p.done.first) in
+    let have : HaveHeld ignore (Some files) rows keeps.helds = record {
+      greatest = given.greatest;
+      top = given.top;
+      held = keeps.are_held;
+    } in
+    replay_of ignore files tables keeps.helds p.items segment_names table_names restored
+    (is_read_as ignore files rows keeps.helds places have tables table_rows table_places read) named
+    segments is keeps.payloads
 
 -- ---- the steps
 
@@ -341,22 +308,6 @@ ranges_of ignore files folder held =
     All-from_recursion (IsRange (length s.bytes)) s.entries
     (all_from (IsRange (length s.bytes)) s.entries (λ f inside.
     (held.entries s f there inside).range))))
-
-no_cells : IsMerge [] []
-unfolding IsStrictlySortedBy
-no_cells = of_itself [] tt
-
-none_merged : (tables : List TableHeld) (m : Merged) → m.cells ≡ [] → m.updates ≡ 0
-    → m.skipped ≡ 0 → IsMergedOf tables [] m
-none_merged tables m cells updates skipped = record {
-  kept = [];
-  picks_kept = refl;
-  cells = subst (λ (l : Pairs). IsMerge [] l) (sym cells) no_cells;
-  updates = updates;
-  gone = [];
-  picks_gone = refl;
-  skipped = skipped;
-}
 
 pub cells_more : (old mid new : Pairs) (front : List TableHeld) (held : TableHeld)
     → IsMerge (old ++ cells_of_tables (map read_of front)) mid
@@ -402,12 +353,3 @@ segments_fit segments i =
     ∙ length-append (flat_map payloads_of (take i segments))
     (flat_map payloads_of (drop i segments)) in
     omega (arith, parts)
-
--- of no entries
-pub none_taken : (tables : List TableHeld) (m : Merged) → m.cells ≡ [] → m.updates ≡ 0
-    → m.skipped ≡ 0 → IsTakenOf tables [] m
-none_taken tables m cells updates skipped = record {
-  log = [];
-  say = refl;
-  taken = none_merged tables m cells updates skipped;
-}

@@ -1,29 +1,7 @@
 -- Updates are taken in one after another.
-use Rattle.std.proofs.Common.{
-  ◌≡◌,
-  ℕ,
-  ◌+◌,
-  ◌<◌,
-  take,
-  get_or,
-  List,
-  [],
-  ◌∷◌,
-  ◌++◌,
-  length,
-  map,
-  refl,
-  sym,
-  ap,
-  subst,
-  ◌∙◌,
-  Bool,
-  append_assoc,
-  length-append,
-  inl,
-  inr,
-  arith,
-}
+use Rattle.std.proofs.Common.{◌≡◌, ℕ, ◌+◌, ◌<◌, take, get_or, List, [], ◌∷◌, ◌++◌, length, map}
+use Rattle.std.proofs.Common.{refl, sym, ap, subst, ◌∙◌, Bool, append_assoc, length-append, inl}
+use Rattle.std.proofs.Common.{inr, arith}
 use Rattle.std.specs.List.{flat_map}
 use Rattle.std.proofs.lemmas.List.{append-nil, length-map, map-append, take_more}
 use Rattle.std.proofs.lemmas.Grind.{flat_map-append}
@@ -41,19 +19,9 @@ use Rattle.clog_folder.specs.Folder.{PlacedPayload, Say, payloads_of, placed}
 use Rattle.clog_folder.specs.Listing.{Picks}
 use Rattle.clog_folder.proofs.EntriesCounted.{picks_both}
 use Rattle.replay_merge.specs.declared.merged.Merged.{Merged}
-use Rattle.replay_merge.specs.Merged.{
-  IsKept,
-  IsMergedOf,
-  IsSkip,
-  IsSkippedBy,
-  KeyedUpdate,
-  Takes,
-  TakesOne,
-  keyed,
-  pair_at,
-  updates_of,
-}
-use Rattle.replay_merge.specs.Dealt.{numbered}
+use Rattle.replay_merge.specs.Merged.{IsKept, IsMergedOf, IsSkip, IsSkippedBy, KeyedUpdate, Takes}
+use Rattle.replay_merge.specs.Merged.{TakesOne, keyed, pair_at, updates_of}
+use Rattle.replay_merge.specs.Rounds.{numbered}
 use Rattle.replay_merge.specs.Taking.{TakesEntry, TakesLog}
 use Rattle.replay_merge.proofs.Interleaved.{numbered_both}
 

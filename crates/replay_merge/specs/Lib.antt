@@ -1,6 +1,9 @@
-pub mod Dealt
 pub mod Merged
+pub mod Piped
+pub mod Places
 pub mod Restoring
+pub mod Rounds
+pub mod Settling
 pub mod Skipping
+pub mod Streaming
 pub mod Taking
-pub mod Working

@@ -8,23 +8,29 @@ use Rattle.clog_crash.specs.Counts.{AreCounts, LoggedMutation}
 use Rattle.clog_crash.specs.Folder.{cells_of_tables}
 use Rattle.clog_crash.specs.Restore.{IsRestored}
 use Rattle.clog_folder.specs.declared.fault.OpenFault.{OpenFault}
-use Rattle.clog_folder.specs.declared.folder.Folder.{Folder}
-use Rattle.clog_folder.specs.Folder.{CanBeRead, FolderRefused, Say, payloads_of}
+use Rattle.clog_folder.specs.declared.tables.TableHeld.{TableHeld}
+use Rattle.clog_folder.specs.Folder.{CanBeRead, FolderRefused, Say}
+use Rattle.clog_folder.specs.Listing.{Picks}
 use Rattle.clog_folder.specs.Tables.{read_of}
 use Rattle.replay_merge.specs.declared.merged.Merged.{Merged}
+use Rattle.replay_merge.specs.declared.piped.Entry.{Entry as Item}
 use Rattle.replay_merge.specs.declared.restoring.Restored.{Restored}
 use Rattle.replay_merge.specs.Merged.{IsMergedOf, updates_of}
+use Rattle.replay_merge.specs.Piped.{IsGood, placed_of}
 
--- What was merged of a folder that was read: for private clauses.
-pub record IsRestoredOf (folder : Folder) (restored : Restored) : Type 0 where
+-- What was merged of entries, and of the table files: for private clauses.
+pub record IsRestoredOf (tables : List TableHeld) (items : List Item)
+    (segment_names table_names : ℕ) (restored : Restored) : Type 0 where
+  pub good : List Item
+  pub picks : Picks IsGood items good
   pub log : List LoggedMutation
-  pub say : Say (flat_map payloads_of folder.segments) log
+  pub say : Say (map placed_of good) log
   pub merged : Merged
-  pub taken : IsMergedOf folder.tables (flat_map updates_of log) merged
-  pub cells : IsMerge (merged.cells ++ cells_of_tables (map read_of folder.tables)) restored.cells
-  pub segments : restored.counts.segments ≡ folder.segment_names
-  pub tables : restored.counts.tables ≡ folder.table_names
-  pub entries : restored.counts.entries ≡ length (flat_map payloads_of folder.segments)
+  pub taken : IsMergedOf tables (flat_map updates_of log) merged
+  pub cells : IsMerge (merged.cells ++ cells_of_tables (map read_of tables)) restored.cells
+  pub segments : restored.counts.segments ≡ segment_names
+  pub tables_are : restored.counts.tables ≡ table_names
+  pub entries : restored.counts.entries ≡ length good
   pub updates : restored.counts.updates ≡ merged.updates
   pub skipped : restored.counts.skipped ≡ merged.skipped
 

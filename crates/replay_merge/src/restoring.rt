@@ -1,17 +1,18 @@
 //! What a folder restores to, and its counts.
-ghost use Rattle.std.specs.Prelude.{◌≡◌, ◌++◌, IfOk, OnOk, length, map};
+ghost use Rattle.std.specs.Prelude.{◌≡◌, ◌++◌, IfOk, List, OnOk, length, map};
 ghost use Rattle.std.specs.List.{flat_map};
 ghost use Rattle.clog_cells.specs.Merge.{AreInOrder, IsMerge};
 ghost use Rattle.clog_crash.specs.Folder.{cells_of_tables};
 ghost use Rattle.clog_folder.specs.Folder.{payloads_of};
 ghost use Rattle.clog_folder.specs.Tables.{read_of};
+ghost use Rattle.replay_merge.specs.declared.piped.Entry.{Entry as log_entry};
+ghost use Rattle.replay_merge.specs.Piped.{IsDone};
 ghost use Rattle.replay_merge.specs.Restoring.{IsRestoredOf};
-ghost use Rattle.replay_merge.specs.Taking.{IsTakenOf};
 
-use crate::merged::Merged;
+use crate::piped::Piped;
 use clog_base::OutOfMemory;
 use clog_cells::CellMap;
-use clog_folder::{Folder, SegmentHeld, TableHeld};
+use clog_folder::{SegmentHeld, TableHeld};
 
 /// How much was read of a folder.
 #[derive(Clone, Copy, Debug, PartialEq, Eq)]
@@ -63,30 +64,35 @@ pub(crate) fn count_entries(segments: &[SegmentHeld]) -> Result<u64, OutOfMemory
     Ok(count)
 }
 
-/// What a folder that was read restores to, whose entries are so many and merge to this.
+/// What a folder restores to that has these table files and so many names of segments and of table
+/// files, of whose entries this is known.
 pub(crate) fn restored_of(
-    folder: Folder,
-    entries: u64,
-    merged: Merged,
+    tables: Vec<TableHeld>,
+    segment_names: usize,
+    table_names: usize,
+    piped: Piped,
 ) -> Result<Restored, OutOfMemory>
-    requires entries { entries ≡ length (flat_map payloads_of folder.segments) }
-    requires merged { IsTakenOf folder.tables (flat_map payloads_of folder.segments) merged }
-    ensures { IfOk result (IsRestoredOf folder) }
+    requires { (items : List log_entry) × IsDone tables.items items piped }
+    ensures { (items : List log_entry) → IsDone tables.items items piped
+        → IfOk result (IsRestoredOf tables.items items segment_names table_names) }
 {
-    let (Ok(segments), Ok(tables)) = (
-        u32::try_from(folder.segment_names),
-        u32::try_from(folder.table_names),
-    ) else {
+    let (Ok(segments), Ok(names)) = (u32::try_from(segment_names), u32::try_from(table_names))
+    else {
         return Err(OutOfMemory);
     };
+    let Piped {
+        merged,
+        entries,
+        ..
+    } = piped;
     let counts = Counts {
         segments,
-        tables,
+        tables: names,
         entries,
         updates: merged.updates,
         skipped: merged.skipped,
     };
     let mut cells = merged.cells;
-    add_tables(&mut cells, folder.tables.into_vec())?;
+    add_tables(&mut cells, tables)?;
     Ok(Restored { cells, counts })
 }

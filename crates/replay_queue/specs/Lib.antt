@@ -1,0 +1,4 @@
+pub mod GivenBack
+pub mod Fair
+pub mod Has
+pub mod Puts
