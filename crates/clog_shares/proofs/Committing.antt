@@ -1,50 +1,22 @@
 -- A writer commits the writes of its lines one after another.
-use Rattle.std.proofs.Common.{
-  ◌≡◌,
-  ℕ,
-  ◌/◌,
-  ◌<◌,
-  ◌≤◌,
-  inl,
-  inr,
-  List,
-  [],
-  ◌∷◌,
-  ◌++◌,
-  drop,
-  get_or,
-  reverse,
-  Option,
-  Some,
-  None,
-  refl,
-  sym,
-  ap,
-  ◌∙◌,
-  subst,
-  arith,
-  append_assoc,
-  length,
-}
+use Rattle.std.proofs.Common.{◌≡◌, ℕ, suc, ◌/◌, ◌<◌, ◌≤◌, inl, inr, List, [], ◌∷◌, ◌++◌, drop}
+use Rattle.std.proofs.Common.{get_or, reverse, Option, Some, None, refl, sym, ap, ◌∙◌, subst, arith}
+use Rattle.std.proofs.Common.{append_assoc, length}
 use Rattle.std.specs.Prelude.{Contains}
 use Rattle.std.proofs.lemmas.List.{reverse-append}
 use Rattle.std.proofs.lemmas.Option.{none-some}
 use Rattle.std.proofs.lemmas.List.Elements.{Contains-get_or}
 use Rattle.std.proofs.lemmas.List.Quantifiers.{all_pairs_push}
-use Rattle.std.proofs.lemmas.List.Sorted.{
-  Contains-permutation,
-  IsPermutation-reverse,
-  IsPermutation-sym,
-}
+use Rattle.std.proofs.lemmas.List.Sorted.{Contains-permutation, IsPermutation-reverse}
+use Rattle.std.proofs.lemmas.List.Sorted.{IsPermutation-sym}
 use Rattle.clog_base.specs.declared.position.Key.{Key}
 use Rattle.clog_base.specs.declared.sizes.Sizes.{Sizes}
 use Rattle.clog_base.proofs.Members.{first_or_further, further}
 use Rattle.clog_mutation.specs.declared.mutation.Mutation.{Mutation}
 use Rattle.clog_applied.specs.History.{Line}
-use Rattle.op_core.specs.declared.count.Order.TheVariants.{Append, Write}
 use Rattle.path_core.specs.declared.event.Cursor.TheVariants.{Stopped as StoppedCursor}
 use Rattle.path_core.specs.declared.event.Place.{Place}
-use Rattle.path_core.specs.declared.event.Place.TheVariants.{Current, CursorWord, Newest}
+use Rattle.path_core.specs.declared.event.Place.TheVariants.{CursorWord}
 use Rattle.path_core.specs.declared.note.EntryNote.{EntryNote}
 use Rattle.path_core.specs.Keeper.{HasRisen}
 use Rattle.path_rule.specs.declared.answer.SyncAnswer.{SyncAnswer}
@@ -60,25 +32,12 @@ use Rattle.path_table.specs.Members.{view_of}
 use Rattle.sync_core.specs.declared.SyncCore.{SyncCore}
 use Rattle.sync_core.specs.declared.SyncCore.TheVariants.{Batch, Periodic}
 use Rattle.write_path.specs.declared.commit.Commit.{Commit}
-use Rattle.write_path.specs.declared.commit.Commit.TheVariants.{
-  Logged,
-  Durable,
-  Unsynced,
-  Spent as NoRoom,
-}
+use Rattle.write_path.specs.declared.commit.Commit.TheVariants.{Logged, Durable, Unsynced}
+use Rattle.write_path.specs.declared.commit.Commit.TheVariants.{Spent as NoRoom}
 use Rattle.write_path.specs.declared.commit.Receipt.{Receipt}
-use Rattle.write_path.specs.declared.commit.SyncFault.TheVariants.{
-  Stopped as LogStopped,
-  OutOfMemory as NoMemory,
-  Rows as NoRows,
-}
+use Rattle.write_path.specs.declared.commit.SyncFault.TheVariants.{Stopped as LogStopped}
+use Rattle.write_path.specs.declared.commit.SyncFault.TheVariants.{OutOfMemory as NoMemory}
 use Rattle.write_path.specs.declared.prepared.Prepared.{Prepared}
-use Rattle.path_flush.specs.declared.switch_answer.Row.{Row}
-use Rattle.path_flush.specs.declared.switch_answer.Row.TheVariants.{
-  AppendGroups,
-  Memtables,
-  WriteGroups,
-}
 use Rattle.write_path.specs.Commits.{HasNoRoom, IsLogged}
 use Rattle.path_flush.specs.OwnWrites.{writes_of}
 use Rattle.path_flush.specs.Grown.{HasGrown}
@@ -86,28 +45,13 @@ use Rattle.write_path.specs.Receipts.{HasReceipt, IsCommitted}
 use Rattle.write_path.specs.Sealed.{FoundWhileLast, IsSealed}
 use Rattle.write_path.specs.Writes.{IsNoteOf, IsPrepared}
 use Rattle.clog_shares.specs.declared.fault.WriteFault.{WriteFault}
-use Rattle.clog_shares.specs.declared.fault.WriteFault.TheVariants.{
-  OutOfMemory,
-  Rows,
-  Spent,
-  Stopped,
-}
+use Rattle.clog_shares.specs.declared.fault.WriteFault.TheVariants.{OutOfMemory, Spent, Stopped}
 use Rattle.write_path.proofs.Growing.{both}
 use Rattle.write_path.proofs.Sealing.{still_sealed}
-use Rattle.clog_shares.specs.Crews.{KnowsRows, KnowsSpent, KnowsWhy}
+use Rattle.clog_shares.specs.Crews.{KnowsSpent, KnowsWhy}
 use Rattle.clog_shares.specs.Sealing.{AreEarlierSealed, IsAllSealed}
-use Rattle.clog_shares.specs.Shares.{
-  AddsWrite,
-  ArePrepared,
-  AreWritesOf,
-  IsWriteOf,
-  LogsShare,
-  MayAddWrite,
-  Rise,
-  fault_of,
-  refusal_in,
-  refusal_of,
-}
+use Rattle.clog_shares.specs.Shares.{AddsWrite, ArePrepared, AreWritesOf, IsWriteOf, LogsShare}
+use Rattle.clog_shares.specs.Shares.{MayAddWrite, Rise, fault_of, refusal_in, refusal_of}
 
 pub one_write : (w : ℕ) (ls : List Line) (ns : List EntryNote) (l : Line) (n : EntryNote)
     → AreWritesOf w ls ns → IsWriteOf w l n → AreWritesOf w (ls ++ l ∷ []) (ns ++ n ∷ [])
@@ -115,6 +59,14 @@ one_write w [] [] l n are is = (is, tt)
 one_write w [] (m ∷ ns) l n are is = absurd are
 one_write w (k ∷ ls) [] l n are is = absurd are
 one_write w (k ∷ ls) (m ∷ ns) l n are is = (are.0, one_write w ls ns l n are.1 is)
+
+-- there is one write for each line
+pub as_many : (sizes : Sizes) (ps : List Prepared) (ls : List Line) → ArePrepared sizes ls ps
+    → length ps ≡ length ls
+as_many sizes [] [] are = refl
+as_many sizes (p ∷ ps) [] are = absurd are
+as_many sizes [] (l ∷ ls) are = absurd are
+as_many sizes (p ∷ ps) (l ∷ ls) are = ap suc (as_many sizes ps ls are.1)
 
 module _ (sizes : Sizes) (w : ℕ) (lines : List Line) where
   -- The first of the lines are logged, and the writes of the others are to come.
@@ -389,21 +341,12 @@ commit_why size w before p s small Batch (Unsynced r (LogStopped at_open now)) i
   risen at_open now is.1.1,
 )
 commit_why size w before p s small Batch (Unsynced r NoMemory) is = tt
-commit_why size w before p s small Batch (Unsynced r (NoRows n)) is =
-    let told = is.2 in (
-      is.1.all,
-      (
-        told.0,
-        told.1,
-        found_in is.0.logged.listed.note (Current Append) told.0 (view_of s.member).trail told.2,
-      ),
-    )
 commit_why size w before p s small Batch (NoRoom back key) is =
     found_no_room size before p key s small is.2
 
 -- a sync too
 pub sync_why : {K : Type 0} (size : PathSize) (w : ℕ) (v : View) (s : PathSeat K)
-    (answer : SyncAnswer) → Answers w size.at_open v answer (view_of s.member)
+    (answer : SyncAnswer) → Answers w 1 size.at_open v answer (view_of s.member)
     → KnowsWhy size (refusal_of answer) s
 sync_why size w v s (sync.Done key) A = tt
 sync_why size w v s (sync.Stopped at_open now) A = (
@@ -413,16 +356,6 @@ sync_why size w v s (sync.Stopped at_open now) A = (
   risen at_open now A.is.1,
 )
 sync_why size w v s sync.OutOfMemory A = tt
-sync_why size w v s (sync.Rows groups) A =
-    let F = A.now in (
-      A.is.0.all,
-      (
-        F.0,
-        F.1,
-        subst (λ (l : List OwnStep). Finds (Current Append) F.0 l) (sym A.steps.trail)
-            (found_after (Current Append) F.0 A.steps.steps v.trail F.2),
-      ),
-    )
 
 -- and what a seat has found it tells also behind a sync
 still_found : (at : Place) (value : ℕ) (before after : List OwnStep) → HasGrown before after
@@ -430,37 +363,6 @@ still_found : (at : Place) (value : ℕ) (before after : List OwnStep) → HasGr
 still_found at value before after G found =
     subst (λ (l : List OwnStep). Finds at value l) (sym G.is)
     (found_before at value G.newer before found)
-
-still_rows : {K : Type 0} (row : Row) (made : ℕ) (s t : PathSeat K)
-    → HasGrown (view_of s.member).trail (view_of t.member).trail → KnowsRows row made s
-    → KnowsRows row made t
-still_rows AppendGroups made s t G (all, (last, next, found)) = (
-  all,
-  (
-    last,
-    next,
-    still_found (Current Append) last (view_of s.member).trail (view_of t.member).trail G found,
-  ),
-)
-still_rows WriteGroups made s t G (all, (last, next, found)) = (
-  all,
-  (
-    last,
-    next,
-    still_found (Current Write) last (view_of s.member).trail (view_of t.member).trail G found,
-  ),
-)
-still_rows Memtables made s t G (all, (table, low, last, next, found)) = (
-  all,
-  (
-    table,
-    low,
-    last,
-    next,
-    still_found (Newest (record { 0 = table })) last (view_of s.member).trail
-        (view_of t.member).trail G found,
-  ),
-)
 
 pub still_why : {K : Type 0} (size : PathSize) (fault : Option WriteFault) (s t : PathSeat K)
     → HasGrown (view_of s.member).trail (view_of t.member).trail → KnowsWhy size fault s
@@ -484,7 +386,6 @@ still_why size (Some (Stopped at_open now)) s t G why = (
       why.1,
   why.2,
 )
-still_why size (Some (Rows row made)) s t G why = still_rows row made s t G why
 
 -- ---- behind a sync
 

@@ -1,35 +1,8 @@
 -- Lines are dealt out one by one.
-use Rattle.std.proofs.Common.{
-  ◌≡◌,
-  ℕ,
-  ◌+◌,
-  ◌%◌,
-  ◌<◌,
-  Bool,
-  true,
-  false,
-  List,
-  [],
-  ◌∷◌,
-  ◌++◌,
-  get_or,
-  length,
-  set,
-  Option,
-  Some,
-  None,
-  refl,
-  sym,
-  ap,
-  ◌∙◌,
-  subst,
-  arith,
-  append-nil,
-  append_assoc,
-  get_or-set_same,
-  get_or-set_other,
-  length-set,
-}
+use Rattle.std.proofs.Common.{◌≡◌, ℕ, ◌+◌, ◌%◌, ◌^◌, ◌<◌, Bool, true, false, List, [], ◌∷◌, ◌++◌}
+use Rattle.std.proofs.Common.{get_or, length, set, Option, Some, None, refl, sym, ap, ◌∙◌, subst}
+use Rattle.std.proofs.Common.{arith, append-nil, append_assoc, get_or-set_same, get_or-set_other}
+use Rattle.std.proofs.Common.{length-set}
 use Rattle.std.specs.Prelude.{Err}
 use Rattle.std.specs.List.{filter}
 use Rattle.std.proofs.lemmas.Bool.{eq-eqb, ne_eqb}
@@ -52,13 +25,8 @@ use Rattle.clog_shares.specs.declared.tally.LineCounts.{LineCounts}
 use Rattle.clog_shares.specs.Crews.{AreDealt, IsDealt}
 use Rattle.clog_shares.specs.Planned.{AllFit, PlanRefused, PreparesLine}
 use Rattle.clog_shares.specs.Shares.{ArePrepared}
-use Rattle.clog_shares.specs.Tallied.{
-  AreCountedFor,
-  AreCountsOf,
-  IsCountOf,
-  IsCountedFor,
-  with_counts,
-}
+use Rattle.clog_shares.specs.Tallied.{AreCountedFor, AreCountsOf, IsCountOf, IsCountedFor}
+use Rattle.clog_shares.specs.Tallied.{with_counts}
 
 -- ---- lists
 
@@ -148,6 +116,7 @@ module _ {K : Type 0} (sizes : Sizes) where
       → ((i : ℕ) (d : Worker K) → i < length ws → ((get_or ws i d).writes.items ≡ [])
       × ((get_or ws i d).counts.items ≡ [])) → (flush : Option ℕ) → AreDealt sizes flush [] ws
   none_dealt ws count none flush = record {
+    few = omega arith;
     count = count;
     each = λ i d inside. record {
       prepared = subst (ArePrepared sizes []) (sym (none i d inside).0) tt;
@@ -170,17 +139,20 @@ module _ {K : Type 0} (sizes : Sizes) where
 
   pub one_dealt : (flush : Option ℕ) (ms : List Mutation) (m : Mutation) (line at : ℕ)
       (ws : List (Worker K)) (p : Prepared) (c : Option LineCounts) (now e : Worker K)
-      → AreDealt sizes flush ms ws → line ≡ length ms + 1 → IsPrepared sizes line m p
+      → AreDealt sizes flush ms ws → line ≡ length ms + 1 → line < 2 ^ 32
+      → IsPrepared sizes line m p
       → IsCountedFor flush m c → at ≡ line % sizes.writers → at < length ws
       → now.writes.items ≡ (get_or ws at e).writes.items ++ p ∷ []
       → now.counts.items ≡ with_counts (get_or ws at e).counts.items c
       → AreDealt sizes flush (ms ++ m ∷ []) (set ws at now)
-  one_dealt flush ms m line at ws p c now e dealt is prepared counted at_is inside put counts =
+  one_dealt flush ms m line at ws p c now e dealt is low prepared counted at_is inside put
+      counts =
       let its : ℕ → List Line = λ i. share_of sizes.writers i ms in
       let after : ℕ → List Line = λ i. share_of sizes.writers i (ms ++ m ∷ []) in
       let same : (d : Worker K) → get_or ws at e ≡ get_or ws at d =
       λ d. get_or_default ws at e d inside in
       record {
+        few = let long = length_push ms m in omega (arith, long, is, low);
         count = length-set ws at now ∙ dealt.count;
         each = λ i d there.
             let low : i < length ws = subst (λ (n : ℕ). i < n) (length-set ws at now) there in

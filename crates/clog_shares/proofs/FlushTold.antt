@@ -1,46 +1,14 @@
 -- What an answer of a flush tells its seat.
-use Rattle.std.proofs.Common.{
-  ◌≡◌,
-  ℕ,
-  suc,
-  ◌<◌,
-  ◌≤◌,
-  true,
-  false,
-  inl,
-  inr,
-  List,
-  [],
-  ◌++◌,
-  get_or,
-  length,
-  reverse,
-  None,
-  refl,
-  sym,
-  ◌∙◌,
-  subst,
-  arith,
-  append-nil,
-}
+use Rattle.std.proofs.Common.{◌≡◌, ℕ, ◌≤◌, true, false, inl, inr, List, [], ◌++◌, get_or, length}
+use Rattle.std.proofs.Common.{reverse, None, refl, sym, subst, arith, append-nil}
 use Rattle.std.specs.Prelude.{Contains}
 use Rattle.std.proofs.lemmas.Bool.{false≢true}
 use Rattle.std.proofs.lemmas.Option.{none-some}
-use Rattle.std.proofs.lemmas.List.Sorted.{
-  Contains-permutation,
-  IsPermutation-reverse,
-  IsPermutation-sym,
-}
-use Rattle.clog_spec.specs.Sizes.{most_tables}
-use Rattle.op_core.specs.declared.count.Order.TheVariants.{Append, Write}
+use Rattle.std.proofs.lemmas.List.Sorted.{Contains-permutation, IsPermutation-reverse}
+use Rattle.std.proofs.lemmas.List.Sorted.{IsPermutation-sym}
 use Rattle.path_core.specs.declared.event.Cursor.TheVariants.{Stopped as StoppedCursor}
 use Rattle.path_core.specs.declared.event.Place.{Place}
-use Rattle.path_core.specs.declared.event.Place.TheVariants.{
-  Current,
-  CursorWord,
-  Newest,
-  TurnWord,
-}
+use Rattle.path_core.specs.declared.event.Place.TheVariants.{CursorWord, TurnWord}
 use Rattle.path_core.specs.declared.event.Turn.TheVariants.{Flush as FlushTurn}
 use Rattle.path_core.specs.declared.note.EntryNote.{EntryNote}
 use Rattle.path_rule.specs.declared.view.OwnStep.{OwnStep}
@@ -53,25 +21,14 @@ use Rattle.path_table.specs.declared.trying.PathSeat.{PathSeat}
 use Rattle.path_table.specs.Members.{view_of}
 use Rattle.path_flush.specs.declared.flush_answer.Flush.{Flush}
 use Rattle.path_flush.specs.declared.flush_answer.Flush.TheVariants as flush
-use Rattle.path_flush.specs.declared.switch_answer.Row.{Row}
-use Rattle.path_flush.specs.declared.switch_answer.Row.TheVariants.{
-  AppendGroups,
-  Memtables,
-  WriteGroups,
-}
 use Rattle.write_path.specs.ClosedFiles.{HasRetired}
 use Rattle.path_flush.specs.OwnWrites.{writes_of}
 use Rattle.path_flush.specs.Flushed.{Flushes, opened_by}
 use Rattle.path_flush.specs.Grown.{HasGrown}
-use Rattle.path_flush.specs.Switched.{FindsLast}
 use Rattle.write_path.proofs.AnswerPromises.{by_answer}
-use Rattle.clog_shares.specs.declared.fault.WriteFault.TheVariants.{
-  OutOfMemory,
-  Rows,
-  Stopped,
-}
+use Rattle.clog_shares.specs.declared.fault.WriteFault.TheVariants.{OutOfMemory, Stopped}
 use Rattle.clog_shares.specs.declared.tally.UpdateTally.{UpdateTally}
-use Rattle.clog_shares.specs.Crews.{KnowsRows, KnowsWhy}
+use Rattle.clog_shares.specs.Crews.{KnowsWhy}
 use Rattle.clog_shares.specs.Shares.{is_finished, refusal_by}
 use Rattle.clog_shares.specs.Tallied.{IsPaid, IsTallied}
 use Rattle.clog_shares.specs.Tallies.{IsTried}
@@ -89,47 +46,20 @@ module _ (before steps after : List OwnStep) (grown : after ≡ steps ++ before)
   in_trail at value found = subst (λ (l : List OwnStep). Finds at value l) (sym grown)
       (found_after at value steps before found)
 
-module _ {K : Type 0} (before steps : List OwnStep) (s : PathSeat K)
-    (grown : (view_of s.member).trail ≡ steps ++ before) where
-  -- a word that a flush lacked
-  knows_rows : (row : Row) (t last made : ℕ) → t < most_tables → suc last ≡ made
-      → FindsLast row t last steps → KnowsRows row made s
-  knows_rows Memtables t last made low is F = (
-    sym is ∙ F.0,
-    (
-      t,
-      low,
-      last,
-      is,
-      in_trail before steps (view_of s.member).trail grown (Newest (record { 0 = t })) last F.2,
-    ),
-  )
-  knows_rows WriteGroups t last made low is F = (
-    sym is ∙ F.0,
-    (last, is, in_trail before steps (view_of s.member).trail grown (Current Write) last F.2),
-  )
-  knows_rows AppendGroups t last made low is F = (
-    sym is ∙ F.0,
-    (last, is, in_trail before steps (view_of s.member).trail grown (Current Append) last F.1),
-  )
-
 pub flush_why : {K : Type 0} (size : PathSize) (w t : ℕ) (v : View) (s : PathSeat K) (a : Flush)
-    → v.size ≡ size → t < most_tables → Flushes w t v a (view_of s.member)
+    → v.size ≡ size → Flushes w t v a (view_of s.member)
     → KnowsWhy size (refusal_by a) s
-flush_why size w t v s (flush.Flushed lower upper) sized low F = tt
-flush_why size w t v s (flush.Empty key) sized low F = tt
-flush_why size w t v s (flush.Busy found) sized low F = tt
-flush_why size w t v s (flush.Rows row made) sized low F =
-    let is = F.is in
-    knows_rows v.trail F.steps.steps s F.steps.trail row t is.0 made low is.1 is.2
-flush_why size w t v s (flush.Stopped at_open now) sized low F =
+flush_why size w t v s (flush.Flushed lower upper) sized F = tt
+flush_why size w t v s (flush.Empty key) sized F = tt
+flush_why size w t v s (flush.Busy found) sized F = tt
+flush_why size w t v s (flush.Stopped at_open now) sized F =
     let is = F.is in (
       subst (λ (z : PathSize). at_open ≡ z.at_open) sized is.0,
       in_trail v.trail F.steps.steps (view_of s.member).trail F.steps.trail
           (CursorWord StoppedCursor) now is.2,
       risen at_open now is.1,
     )
-flush_why size w t v s flush.OutOfMemory sized low F = tt
+flush_why size w t v s flush.OutOfMemory sized F = tt
 
 -- ---- what it tried
 
@@ -146,8 +76,6 @@ tried w t v after (flush.Busy found) tally now F none most some done =
     inr (subst (λ (n : ℕ).
     FoundSince (length v.trail) (TurnWord (FlushTurn (record { 0 = t }))) n after.trail) F.is.0
     F.is.1)
-tried w t v after (flush.Rows row made) tally now F none most some done =
-    absurd (none-some (Rows row made) (sym none))
 tried w t v after (flush.Stopped at_open count) tally now F none most some done =
     absurd (none-some (Stopped at_open count) (sym none))
 tried w t v after flush.OutOfMemory tally now F none most some done =
@@ -190,7 +118,6 @@ finished most w t v after (flush.Empty key) done F paid =
     none_left most w t key.0 after.trail paid
     (by_answer w (record { 0 = t }) (flush.Empty key) key.0 v after refl F) F.is.1.covers
 finished most w t v after (flush.Busy found) done F paid = absurd (false≢true done)
-finished most w t v after (flush.Rows row made) done F paid = absurd (false≢true done)
 finished most w t v after (flush.Stopped at_open now) done F paid = absurd (false≢true done)
 finished most w t v after flush.OutOfMemory done F paid = absurd (false≢true done)
 
@@ -201,7 +128,6 @@ pub busy_opens : (a : Flush) → is_finished a ≡ false → refusal_by a ≡ No
 busy_opens (flush.Flushed lower upper) other none = absurd (false≢true (sym other))
 busy_opens (flush.Empty key) other none = absurd (false≢true (sym other))
 busy_opens (flush.Busy found) other none = refl
-busy_opens (flush.Rows row made) other none = absurd (none-some (Rows row made) (sym none))
 busy_opens (flush.Stopped at_open now) other none =
     absurd (none-some (Stopped at_open now) (sym none))
 busy_opens flush.OutOfMemory other none = absurd (none-some OutOfMemory (sym none))

@@ -1,27 +1,6 @@
 -- Workers give their seats back one after another, once the log is synced behind their shares.
-use Rattle.std.proofs.Common.{
-  ◌≡◌,
-  ◌⊎◌,
-  ℕ,
-  suc,
-  ◌+◌,
-  ◌<◌,
-  inl,
-  inr,
-  List,
-  [],
-  ◌∷◌,
-  ◌++◌,
-  get_or,
-  length,
-  Option,
-  Some,
-  None,
-  sym,
-  ◌∙◌,
-  subst,
-  arith,
-}
+use Rattle.std.proofs.Common.{◌≡◌, ◌⊎◌, ℕ, suc, ◌+◌, ◌<◌, inl, inr, List, [], ◌∷◌, ◌++◌, get_or}
+use Rattle.std.proofs.Common.{length, Option, Some, None, sym, ◌∙◌, subst, arith}
 use Rattle.std.specs.Prelude.{Contains}
 use mathlib.Core.Logic.{dite}
 use native.Mathlib.Decide.{dec_lt}
@@ -34,22 +13,11 @@ use Rattle.clog_mutation.specs.declared.mutation.Mutation.{Mutation}
 use Rattle.clog_applied.specs.History.{Line, share_of}
 use Rattle.path_rule.specs.declared.view.PathSize.{PathSize}
 use Rattle.path_table.specs.declared.trying.PathSeat.{PathSeat}
-use Rattle.path_flush.specs.declared.switch_answer.Row.{Row}
 use Rattle.clog_shares.specs.declared.fault.WriteFault.{WriteFault}
-use Rattle.clog_shares.specs.declared.fault.WriteFault.TheVariants.{Rows, Spent, Stopped}
+use Rattle.clog_shares.specs.declared.fault.WriteFault.TheVariants.{Spent, Stopped}
 use Rattle.clog_shares.specs.declared.worker.Worker.{Worker}
-use Rattle.clog_shares.specs.Crews.{
-  HasEnded,
-  HasLogged,
-  HaveEnded,
-  HaveLogged,
-  KnowsRows,
-  KnowsSpent,
-  KnowsStopped,
-  KnowsWhy,
-  MayLack,
-}
-use Rattle.clog_shares.proofs.Lacking.{lacks_first}
+use Rattle.clog_shares.specs.Crews.{HasEnded, HasLogged, HaveEnded, HaveLogged, KnowsSpent}
+use Rattle.clog_shares.specs.Crews.{KnowsStopped, KnowsWhy}
 
 -- the share of a number
 abbrev its : PathSize → List Mutation → ℕ → List Line
@@ -68,9 +36,6 @@ module _ {K : Type 0} (id : TableId) (size : PathSize) (flush : Option ℕ) wher
     pub stops : (at_open now : ℕ) → first ≡ Some (Stopped at_open now)
         → (s : PathSeat K) × Contains seats s × KnowsStopped size at_open now s
     pub spent : first ≡ Some Spent → (s : PathSeat K) × Contains seats s × KnowsSpent size s
-    pub rows : (row : Row) (made : ℕ) → first ≡ Some (Rows row made)
-        → (s : PathSeat K) × Contains seats s × KnowsRows row made s
-    pub lacks : MayLack flush first
 
   pub none_gathered : (ms : List Mutation) (ws : List (Worker K)) → HaveLogged id size flush ms ws
       → Gathers ms ws [] None
@@ -83,8 +48,6 @@ module _ {K : Type 0} (id : TableId) (size : PathSize) (flush : Option ℕ) wher
     done = λ i d inside. absurd (omega (arith, inside));
     stops = λ at_open now is. absurd (none-some (Stopped at_open now) is);
     spent = λ is. absurd (none-some Spent is);
-    rows = λ row made is. absurd (none-some (Rows row made) is);
-    lacks = λ row made is. absurd (none-some (Rows row made) is);
   }
 
   -- the next one
@@ -120,10 +83,10 @@ module _ {K : Type 0} (id : TableId) (size : PathSize) (flush : Option ℕ) wher
       (seats : List (PathSeat K)) (first fault now : Option WriteFault) (s : PathSeat K)
       → Gathers ms (w ∷ rest) seats first
       → HasEnded id size flush (length seats) (its size ms (length seats)) fault s
-      → KnowsWhy size fault s → MayLack flush fault
+      → KnowsWhy size fault s
       → (now ≡ None → (first ≡ None) × (fault ≡ None)) → (now ≡ first) ⊎ (now ≡ fault)
       → Gathers ms rest (seats ++ s ∷ []) now
-  one_gathered ms w rest seats first fault now s g ends why lack none one =
+  one_gathered ms w rest seats first fault now s g ends why none one =
       let long = length_push seats s in
       let count = g.count in
       let why_is = λ (f : Option WriteFault) (is : fault ≡ f).
@@ -160,13 +123,6 @@ module _ {K : Type 0} (id : TableId) (size : PathSize) (flush : Option ℕ) wher
               (old.0, Contains-append_left seats (s ∷ []) old.0 old.1, old.2)
           | inr same ↦ (s, Contains-push seats s, why_is (Some Spent) (sym same ∙ is))
         ];
-        rows = λ row made is. elim one [
-          | inl same ↦
-              let old = g.rows row made (sym same ∙ is) in
-              (old.0, Contains-append_left seats (s ∷ []) old.0 old.1, old.2)
-          | inr same ↦ (s, Contains-push seats s, why_is (Some (Rows row made)) (sym same ∙ is))
-        ];
-        lacks = lacks_first flush first fault now g.lacks lack one;
       }
 
   pub all_gathered : (ms : List Mutation) (seats : List (PathSeat K)) (first : Option WriteFault)
@@ -176,6 +132,4 @@ module _ {K : Type 0} (id : TableId) (size : PathSize) (flush : Option ℕ) wher
     each = g.done;
     stops = g.stops;
     spent = g.spent;
-    rows = g.rows;
-    lacks = g.lacks;
   }

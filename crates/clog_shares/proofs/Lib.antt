@@ -5,7 +5,7 @@ pub mod LineWrites
 pub mod Seating
 pub mod Gathering
 pub mod UpdateCounts
-pub mod Lacking
+pub mod Barriers
 pub mod FlushTold
 pub mod Tallying
 pub mod NextLines

@@ -1,41 +1,18 @@
 -- How many memtables a call opens: a flush at most one, of its table; another call none.
 use Rattle.std.proofs.Common.{◌≡◌, ◌≢◌, ℕ, ◌+◌, ◌≤◌, List, ◌++◌, ap, ◌∙◌, arith}
-use Rattle.std.specs.Prelude.{Contains}
-use Rattle.std.proofs.lemmas.List.Elements.{All-contains}
-use Rattle.path_core.specs.declared.event.Place.TheVariants.{Newest}
-use Rattle.path_core.specs.Keeper.{Holding}
 use Rattle.path_rule.specs.declared.answer.SyncAnswer.{SyncAnswer}
 use Rattle.path_rule.specs.declared.view.OwnStep.{OwnStep}
 use Rattle.path_rule.specs.declared.view.PathSize.{PathSize}
 use Rattle.path_rule.specs.declared.view.View.{View}
-use Rattle.path_rule.specs.Finds.{Finds}
-use Rattle.path_table.specs.declared.trying.PathSeat.{PathSeat}
-use Rattle.path_table.specs.Members.{view_of}
 use Rattle.sync_core.specs.declared.SyncCore.{SyncCore}
 use Rattle.sync_core.specs.declared.SyncCore.TheVariants.{Batch, Periodic}
 use Rattle.write_path.specs.declared.commit.Commit.{Commit}
-use Rattle.write_path.specs.declared.commit.Commit.TheVariants.{
-  Logged,
-  Durable,
-  Unsynced,
-  Spent as NoRoom,
-}
+use Rattle.write_path.specs.declared.commit.Commit.TheVariants.{Logged, Durable, Unsynced}
+use Rattle.write_path.specs.declared.commit.Commit.TheVariants.{Spent as NoRoom}
 use Rattle.path_flush.specs.declared.flush_answer.Flush.{Flush}
-use Rattle.path_flush.specs.declared.flush_answer.Flush.TheVariants.{
-  Flushed,
-  Empty,
-  Busy,
-  Rows,
-  Stopped,
-  OutOfMemory,
-}
+use Rattle.path_flush.specs.declared.flush_answer.Flush.TheVariants.{Flushed, Empty, Busy, Stopped}
+use Rattle.path_flush.specs.declared.flush_answer.Flush.TheVariants.{OutOfMemory}
 use Rattle.write_path.specs.declared.prepared.Prepared.{Prepared}
-use Rattle.path_flush.specs.declared.switch_answer.Row.TheVariants.{
-  AppendGroups,
-  Memtables,
-  WriteGroups,
-}
-use Rattle.write_path.specs.Closed.{FindsNewestTo, IsOutcome, all_opened}
 use Rattle.path_flush.specs.Flushed.{Flushes, opened_by}
 use Rattle.path_flush.specs.FlushSteps.{SwitchesNone}
 use Rattle.path_flush.specs.Grown.{HasGrown}
@@ -104,16 +81,5 @@ pub at_most_one : (a : Flush) → opened_by a ≤ 1
 at_most_one (Flushed lower upper) = omega arith
 at_most_one (Empty key) = omega arith
 at_most_one (Busy found) = omega arith
-at_most_one (Rows Memtables made) = omega arith
-at_most_one (Rows WriteGroups made) = omega arith
-at_most_one (Rows AppendGroups made) = omega arith
 at_most_one (Stopped at_open now) = omega arith
 at_most_one OutOfMemory = omega arith
-
--- what a seat found as a table's newest memtable is at most as much as all seats opened
-pub newest_opened : {K : Type 0} (size : PathSize) (seats : List (PathSeat K)) (end : ℕ)
-    (now : Holding) → IsOutcome size seats end now → (s : PathSeat K) → Contains seats s
-    → (t last : ℕ) → Finds (Newest (record { 0 = t })) last (view_of s.member).trail
-    → last ≤ all_opened t seats
-newest_opened size seats end now o s there t last found =
-    All-contains (FindsNewestTo seats) seats s o.found_newest there t last found

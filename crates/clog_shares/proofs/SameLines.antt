@@ -1,5 +1,5 @@
 -- A writer's notes are those of one list of lines alone.
-use Rattle.std.proofs.Common.{◌≡◌, List, [], ◌∷◌, ℕ, refl, sym, ◌∙◌, arith}
+use Rattle.std.proofs.Common.{◌≡◌, List, [], ◌∷◌, ℕ, refl, sym, ◌∙◌}
 use Rattle.clog_spec.specs.Segment.{entry_bytes}
 use Rattle.clog_spec.proofs.Payloads.{same_payload}
 use Rattle.clog_mutation.specs.declared.mutation.Mutation.{Mutation}

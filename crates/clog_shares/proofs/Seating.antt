@@ -1,44 +1,18 @@
 -- Workers get their seats, the last one first.
-use Rattle.std.proofs.Common.{
-  ◌≡◌,
-  ℕ,
-  suc,
-  ◌+◌,
-  ◌<◌,
-  ◌≤◌,
-  List,
-  [],
-  ◌∷◌,
-  ◌++◌,
-  get_or,
-  length,
-  set,
-  Option,
-  Some,
-  sym,
-  ap,
-  ◌∙◌,
-  subst,
-  arith,
-  get_or-set_same,
-  get_or-set_other,
-  length-set,
-}
+use Rattle.std.proofs.Common.{◌≡◌, ℕ, suc, ◌+◌, ◌<◌, ◌≤◌, Bool, not, List, [], ◌∷◌, ◌++◌, get_or}
+use Rattle.std.proofs.Common.{length, set, Option, Some, refl, sym, ap, ◌∙◌, subst, arith}
+use Rattle.std.proofs.Common.{get_or-set_same, get_or-set_other, length-set}
 use mathlib.Core.Logic.{dite}
 use native.Mathlib.Decide.{ℕ_discrete}
-use Rattle.std.specs.List.{range_with_len}
-use Rattle.std.proofs.lemmas.List.{
-  get_or_append_left,
-  get_or_default,
-  length_push,
-  map-append,
-  same_from_push,
-}
+use Rattle.std.specs.List.{filter, range_with_len}
+use Rattle.std.proofs.lemmas.List.{get_or_append_left, get_or_default, length_push, map-append}
+use Rattle.std.proofs.lemmas.List.{same_from_push}
 use Rattle.std.proofs.lemmas.List.Elements.{All-contains, Contains-push}
+use Rattle.std.proofs.lemmas.List.Filters.{length-filter_both}
 use Rattle.atomic_table.specs.Seated.{TableId}
 use Rattle.clog_base.specs.declared.sizes.Sizes.{Sizes}
 use Rattle.clog_mutation.specs.declared.mutation.Mutation.{Mutation}
-use Rattle.clog_applied.specs.History.{Line, share_of}
+use Rattle.clog_applied.specs.History.{Line, is_for, numbered, share_of}
 use Rattle.path_rule.specs.declared.view.PathSize.{PathSize}
 use Rattle.path_rule.specs.declared.view.View.{View}
 use Rattle.path_table.specs.declared.trying.PathSeat.{PathSeat}
@@ -48,6 +22,22 @@ use Rattle.clog_shares.specs.declared.worker.Worker.{Worker}
 use Rattle.clog_shares.specs.Crews.{AreDealt, AreReady, IsDealt, IsSeated, IsSizedAs}
 use Rattle.clog_shares.specs.Shares.{ArePrepared}
 use Rattle.clog_shares.specs.Tallied.{AreCountedFor}
+
+-- a share has no more lines than there are
+as_many_lines : (from : ℕ) (ms : List Mutation) → length (numbered from ms) ≡ length ms
+as_many_lines from [] = refl
+as_many_lines from (m ∷ ms) = ap suc (as_many_lines (from + 1) ms)
+
+shorter : {A : Type 0} (own : A → Bool) (lines : List A) → length (filter own lines) ≤ length lines
+shorter {A} own lines =
+    let both = length-filter_both own (λ (l : A). not (own l)) (λ l. refl) lines in
+    omega (arith, both)
+
+share_short : (writers i : ℕ) (ms : List Mutation)
+    → length (share_of writers i ms) ≤ length ms
+share_short writers i ms =
+    let short = shorter (is_for writers i) (numbered 1 ms) in let all = as_many_lines 1 ms in
+    omega (arith, short, all)
 
 one_on : (n : ℕ) → n + 1 ≡ suc n
 one_on n = omega arith
@@ -131,6 +121,7 @@ module _ {K : Type 0} (id : TableId) (size : PathSize) where
       → now.writes ≡ (get_or ws at e).writes → now.counts ≡ (get_or ws at e).counts
       → AreDealt sizes flush ms ws → AreDealt sizes flush ms (set ws at now)
   still_dealt sizes flush ms at ws now e low writes counts dealt = record {
+    few = dealt.few;
     count = length-set ws at now ∙ dealt.count;
     each = λ i d inside.
         let there = subst (λ (n : ℕ). i < n) (length-set ws at now) inside in
@@ -159,5 +150,6 @@ module _ {K : Type 0} (id : TableId) (size : PathSize) where
       seats.each i d (omega arith) inside,
       subst (λ (k : ℕ). IsDealt sizes flush (share_of k i ms) (get_or ws i d)) sized.writers
           (dealt.each i d inside),
+      let short = share_short size.seats i ms in let few = dealt.few in omega (arith, short, few),
     );
   }

@@ -1,23 +1,6 @@
 -- In periodic mode: what a sync behind a write tells, and writes one after another.
-use Rattle.std.proofs.Common.{
-  ◌≡◌,
-  ◌⊎◌,
-  ℕ,
-  ◌<◌,
-  inl,
-  inr,
-  List,
-  [],
-  ◌∷◌,
-  map,
-  Option,
-  None,
-  refl,
-  sym,
-  ◌∙◌,
-  subst,
-  arith,
-}
+use Rattle.std.proofs.Common.{◌≡◌, ◌⊎◌, ℕ, ◌<◌, inl, inr, List, [], ◌∷◌, map, Option, None, refl}
+use Rattle.std.proofs.Common.{sym, ◌∙◌, subst, arith}
 use Rattle.std.specs.Prelude.{Contains}
 use Rattle.std.proofs.lemmas.Option.{none-some}
 use Rattle.clog_base.proofs.Members.{here}
@@ -36,14 +19,9 @@ use Rattle.path_rule.specs.Rule.{event_of}
 use Rattle.path_table.specs.declared.trying.PathSeat.{PathSeat}
 use Rattle.path_table.specs.Members.{view_of}
 use Rattle.write_path.specs.declared.commit.Commit.{Commit}
-use Rattle.write_path.specs.declared.commit.Commit.TheVariants.{
-  Logged,
-  Durable,
-  Unsynced,
-  Spent as NoRoom,
-}
+use Rattle.write_path.specs.declared.commit.Commit.TheVariants.{Logged, Durable, Unsynced}
+use Rattle.write_path.specs.declared.commit.Commit.TheVariants.{Spent as NoRoom}
 use Rattle.write_path.specs.declared.prepared.Prepared.{Prepared}
-use Rattle.path_flush.specs.declared.switch_answer.Row.TheVariants.{AppendGroups}
 use Rattle.path_flush.specs.OwnWrites.{writes_of}
 use Rattle.write_path.specs.Ends.{IsLast}
 use Rattle.path_flush.specs.Grown.{HasGrown}
@@ -52,23 +30,10 @@ use Rattle.write_path.specs.Syncs.{Syncs}
 use Rattle.write_path.proofs.Growing.{both}
 use Rattle.write_path.proofs.Sealing.{found_in}
 use Rattle.clog_shares.specs.declared.fault.WriteFault.{WriteFault}
-use Rattle.clog_shares.specs.declared.fault.WriteFault.TheVariants.{
-  OutOfMemory,
-  Rows,
-  Spent,
-  Stopped,
-}
+use Rattle.clog_shares.specs.declared.fault.WriteFault.TheVariants.{OutOfMemory, Spent, Stopped}
 use Rattle.clog_shares.specs.Shares.{refusal_in, refusal_of}
-use Rattle.clog_shares.specs.Timed.{
-  AreTimed,
-  HasNotSynced,
-  HasSynced,
-  IsTimed,
-  KnowsSynced,
-  SealsLast,
-  SyncsWhenDue,
-  TimesWrite,
-}
+use Rattle.clog_shares.specs.Timed.{AreTimed, HasNotSynced, HasSynced, IsTimed, KnowsSynced}
+use Rattle.clog_shares.specs.Timed.{SealsLast, SyncsWhenDue, TimesWrite}
 use Rattle.clog_shares.proofs.Committing.{sealed_still}
 
 -- ---- what a sync tells that was not refused
@@ -79,8 +44,6 @@ knows_synced w opened v s (sync.Done key) S none = (key, S.answers.is.0, S.cover
 knows_synced w opened v s (sync.Stopped at_open now) S none =
     absurd (none-some (Stopped at_open now) (sym none))
 knows_synced w opened v s sync.OutOfMemory S none = absurd (none-some OutOfMemory (sym none))
-knows_synced w opened v s (sync.Rows groups) S none =
-    absurd (none-some (Rows AppendGroups groups) (sym none))
 
 pub seals_last : {K : Type 0} (w opened : ℕ) (s t : PathSeat K) (answer : SyncAnswer)
     → Syncs w opened (view_of s.member) answer (view_of t.member) → refusal_of answer ≡ None
@@ -94,8 +57,6 @@ seals_last w opened s t (sync.Done key) S none = λ n listed last. (
 seals_last w opened s t (sync.Stopped at_open now) S none =
     absurd (none-some (Stopped at_open now) (sym none))
 seals_last w opened s t sync.OutOfMemory S none = absurd (none-some OutOfMemory (sym none))
-seals_last w opened s t (sync.Rows groups) S none =
-    absurd (none-some (Rows AppendGroups groups) (sym none))
 
 -- no sync is due in batch mode, where no write waits for one
 pub none_due : (mode : SyncCore) (moment last : ℕ) → mode ≡ Batch → IsDue mode moment last 0 → ⊥

@@ -11,7 +11,7 @@ use Rattle.sync_core.specs.declared.SyncCore.TheVariants.{Batch, Periodic}
 use Rattle.write_path.specs.declared.prepared.Prepared.{Prepared}
 use Rattle.path_flush.specs.Seats.{Stays}
 use Rattle.clog_shares.specs.declared.fault.WriteFault.{WriteFault}
-use Rattle.clog_shares.specs.Crews.{KnowsWhy, MayLack}
+use Rattle.clog_shares.specs.Crews.{HasIssuedFew, KnowsWhy}
 use Rattle.clog_shares.specs.Sealing.{HasWaited}
 use Rattle.clog_shares.specs.Shares.{ArePrepared, LogsShare, logged_by}
 use Rattle.clog_shares.specs.Tallied.{ArePaid}
@@ -27,7 +27,7 @@ module _ {K : Type 0} (id : TableId) (size : PathSize) (sizes : Sizes) (flush : 
     pub logs : (lines : List Line) → ArePrepared sizes lines writes
         → LogsShare before.member.number lines (logged_by after.member) fault
     pub why : KnowsWhy size fault after
-    pub rows : MayLack flush fault
+    pub issued : HasIssuedFew after
     pub waited : mode ≡ Batch → HasWaited after
     pub timed : (period : ℕ) → mode ≡ Periodic period → fault ≡ None
         → HasTimed tells mode since after

@@ -1,50 +1,22 @@
 -- Writers that each have a seat of one path, and a share of the lines of a file.
-use Rattle.std.specs.Prelude.{
-  ◌≡◌,
-  ℕ,
-  suc,
-  ◌/◌,
-  ◌<◌,
-  ◌≤◌,
-  List,
-  [],
-  length,
-  slice_index_or,
-  Option,
-  Some,
-  None,
-  is_some,
-  ⊤,
-}
+use Rattle.std.specs.Prelude.{◌≡◌, ℕ, ◌/◌, ◌<◌, ◌≤◌, ◌^◌, List, [], length, slice_index_or, Option}
+use Rattle.std.specs.Prelude.{Some, None, is_some, ⊤}
 use Rattle.std.specs.List.{Contains}
 use Rattle.atomic_table.specs.Seated.{TableId}
 use Rattle.clog_base.specs.declared.sizes.Sizes.{Sizes}
-use Rattle.clog_spec.specs.Sizes.{most_tables}
 use Rattle.clog_mutation.specs.declared.mutation.Mutation.{Mutation}
 use Rattle.clog_applied.specs.History.{Line, share_of}
-use Rattle.op_core.specs.declared.count.Order.TheVariants.{Append, Write}
 use Rattle.path_core.specs.declared.event.Cursor.TheVariants.{Stopped as StoppedCursor}
-use Rattle.path_core.specs.declared.event.Place.TheVariants.{Current, CursorWord, Newest}
+use Rattle.path_core.specs.declared.event.Place.TheVariants.{CursorWord}
 use Rattle.path_rule.specs.declared.view.PathSize.{PathSize}
 use Rattle.path_rule.specs.Finds.{Finds}
-use Rattle.path_rule.specs.Layout.{group_rows, memtable_rows}
+use Rattle.path_rule.specs.Issued.{issued_in}
 use Rattle.path_table.specs.declared.trying.PathSeat.{PathSeat}
 use Rattle.path_table.specs.Members.{IsOf, view_of}
-use Rattle.path_flush.specs.declared.switch_answer.Row.{Row}
-use Rattle.path_flush.specs.declared.switch_answer.Row.TheVariants.{
-  AppendGroups,
-  Memtables,
-  WriteGroups,
-}
 use Rattle.write_path.specs.Opened.{sized_for}
 use Rattle.write_path.specs.Promised.{WasSpent}
 use Rattle.clog_shares.specs.declared.fault.WriteFault.{WriteFault}
-use Rattle.clog_shares.specs.declared.fault.WriteFault.TheVariants.{
-  OutOfMemory,
-  Rows,
-  Spent,
-  Stopped,
-}
+use Rattle.clog_shares.specs.declared.fault.WriteFault.TheVariants.{OutOfMemory, Spent, Stopped}
 use Rattle.clog_shares.specs.declared.worker.Worker.{Worker}
 use Rattle.clog_shares.specs.Shares.{ArePrepared, LogsShare, logged_by}
 use Rattle.clog_shares.specs.Tallied.{AreCountedFor, HasFlushedAll, HasOpened}
@@ -60,11 +32,6 @@ pub record IsSizedAs (size : PathSize) (sizes : Sizes) : Type 0 where
   pub writers : sizes.writers ≡ size.seats
   pub capacity : sizes.capacity ≡ size.capacity
 
--- a sync alone lacks a word where writers do not flush
-abbrev pub MayLack : Option ℕ → Option WriteFault → Type 0
-MayLack flush fault = (row : Row) (made : ℕ) → fault ≡ Some (Rows row made) → flush ≡ None
-    → row ≡ AppendGroups
-
 module _ {K : Type 0} where
   -- The worker has the writes of its lines, all of them prepared, and where writers flush how many
   -- updates of each table they have.
@@ -73,9 +40,10 @@ module _ {K : Type 0} where
     pub prepared : ArePrepared sizes lines w.writes.items
     pub counted : AreCountedFor flush lines w.counts.items
 
-  -- each worker has the writes of its share
+  -- Each worker has the writes of its share, of lines whose numbers fit 32 bits.
   pub record AreDealt (sizes : Sizes) (flush : Option ℕ) (mutations : List Mutation)
       (workers : List (Worker K)) : Type 0 where
+    pub few : length mutations < 2 ^ 32
     pub count : length workers ≡ sizes.writers
     pub each : Each (λ (i : ℕ) (w : Worker K).
         IsDealt sizes flush (share_of sizes.writers i mutations) w) workers
@@ -88,10 +56,10 @@ module _ {K : Type 0} where
     pub number_is : seat.member.number ≡ number
     pub unused : (view_of seat.member).trail ≡ []
 
-  -- it is ready to log its lines
+  -- it is ready to log its lines, fewer than 2^32
   abbrev pub IsReady : TableId → PathSize → Sizes → Option ℕ → ℕ → List Line → Worker K → Type 0
   IsReady id size sizes flush number lines w =
-      IsSeated id size number w × IsDealt sizes flush lines w
+      IsSeated id size number w × IsDealt sizes flush lines w × (length lines < 2 ^ 32)
 
   -- the seat found, or put, the count of faults with which the log is stopped; the other one is
   -- that of the path's opening
@@ -104,16 +72,6 @@ module _ {K : Type 0} where
   KnowsSpent size s = (bytes key : ℕ) × (bytes ≤ size.capacity / 2)
       × WasSpent size bytes key (view_of s.member).trail
 
-  -- the seat found that group of an order current which is the last to have a word, or that
-  -- memtable of a table as its newest; so many words there are
-  abbrev pub KnowsRows : Row → ℕ → PathSeat K → Type 0
-  KnowsRows AppendGroups made s = (made ≡ group_rows) × ((last : ℕ) × (suc last ≡ made)
-      × Finds (Current Append) last (view_of s.member).trail)
-  KnowsRows WriteGroups made s = (made ≡ group_rows) × ((last : ℕ) × (suc last ≡ made)
-      × Finds (Current Write) last (view_of s.member).trail)
-  KnowsRows Memtables made s = (made ≡ memtable_rows) × ((t : ℕ) × (t < most_tables) × (last : ℕ)
-      × (suc last ≡ made) × Finds (Newest (record { 0 = t })) last (view_of s.member).trail)
-
   -- the seat found why its lines were not all logged, and the numbers are those of what it found;
   -- of want of memory there is nothing to find
   abbrev pub KnowsWhy : PathSize → Option WriteFault → PathSeat K → Type 0
@@ -121,7 +79,10 @@ module _ {K : Type 0} where
   KnowsWhy size (Some OutOfMemory) s = ⊤
   KnowsWhy size (Some Spent) s = KnowsSpent size s
   KnowsWhy size (Some (Stopped at_open now)) s = KnowsStopped size at_open now s
-  KnowsWhy size (Some (Rows row made)) s = KnowsRows row made s
+
+  -- The seat has issued so few barriers that it may sync, and flush, once more.
+  abbrev pub HasIssuedFew : PathSeat K → Type 0
+  HasIssuedFew s = issued_in (view_of s.member).trail ≤ 2 ^ 40
 
   -- The worker has logged its lines, or the first of them, and its seat knows why no more. Where it
   -- flushes it has opened few memtables, and where nothing was refused it has flushed all but the
@@ -136,7 +97,7 @@ module _ {K : Type 0} where
     pub why : KnowsWhy size w.fault seat
     pub flushed : w.fault ≡ None → HasFlushedAll flush seat
     pub opened : HasOpened flush lines seat
-    pub rows : MayLack flush w.fault
+    pub issued : HasIssuedFew seat
 
   -- each worker is ready to log its share
   pub record AreReady (id : TableId) (size : PathSize) (sizes : Sizes) (flush : Option ℕ)
@@ -163,8 +124,7 @@ module _ {K : Type 0} where
     pub flushed : fault ≡ None → HasFlushedAll flush s
     pub opened : HasOpened flush lines s
 
-  -- So has each of these seats. Where the log has stopped, or has no room or no further word, one
-  -- of them knows that.
+  -- So has each of these seats. Where the log has stopped, or has no room, one of them knows that.
   pub record HaveEnded (id : TableId) (size : PathSize) (flush : Option ℕ)
       (mutations : List Mutation) (fault : Option WriteFault) (seats : List (PathSeat K)) :
       Type 0 where
@@ -174,9 +134,6 @@ module _ {K : Type 0} where
     pub stops : (at_open now : ℕ) → fault ≡ Some (Stopped at_open now)
         → (s : PathSeat K) × Contains seats s × KnowsStopped size at_open now s
     pub spent : fault ≡ Some Spent → (s : PathSeat K) × Contains seats s × KnowsSpent size s
-    pub rows : (row : Row) (made : ℕ) → fault ≡ Some (Rows row made)
-        → (s : PathSeat K) × Contains seats s × KnowsRows row made s
-    pub lacks : MayLack flush fault
 
 -- The path was opened with these sizes over a keeper of this base, for table files where writers
 -- flush.

@@ -1,22 +1,6 @@
 -- A writer's share of lines: its writes when they are prepared, and what it has logged of them.
-use Rattle.std.specs.Prelude.{
-  ◌≡◌,
-  ◌⊎◌,
-  ℕ,
-  ◌≤◌,
-  List,
-  [],
-  ◌∷◌,
-  ◌++◌,
-  reverse,
-  Option,
-  Some,
-  None,
-  Bool,
-  true,
-  false,
-  ⊤,
-}
+use Rattle.std.specs.Prelude.{◌≡◌, ◌⊎◌, ℕ, ◌≤◌, List, [], ◌∷◌, ◌++◌, reverse, Option, Some, None}
+use Rattle.std.specs.Prelude.{Bool, true, false, ⊤}
 use Rattle.std.specs.List.{AllPairs}
 use Rattle.clog_base.specs.declared.sizes.Sizes.{Sizes}
 use Rattle.clog_mutation.specs.declared.mutation.Mutation.{Mutation}
@@ -28,32 +12,19 @@ use Rattle.path_rule.specs.declared.view.OwnStep.{OwnStep}
 use Rattle.path_table.specs.declared.table.Member.{Member}
 use Rattle.path_table.specs.Members.{view_of}
 use Rattle.write_path.specs.declared.commit.Commit.{Commit}
-use Rattle.write_path.specs.declared.commit.Commit.TheVariants.{
-  Logged,
-  Durable,
-  Unsynced,
-  Spent as NoRoom,
-}
+use Rattle.write_path.specs.declared.commit.Commit.TheVariants.{Logged, Durable, Unsynced}
+use Rattle.write_path.specs.declared.commit.Commit.TheVariants.{Spent as NoRoom}
 use Rattle.write_path.specs.declared.commit.SyncFault.{SyncFault}
-use Rattle.write_path.specs.declared.commit.SyncFault.TheVariants.{
-  Stopped as LogStopped,
-  OutOfMemory as NoMemory,
-  Rows as NoRows,
-}
+use Rattle.write_path.specs.declared.commit.SyncFault.TheVariants.{Stopped as LogStopped}
+use Rattle.write_path.specs.declared.commit.SyncFault.TheVariants.{OutOfMemory as NoMemory}
 use Rattle.path_flush.specs.declared.flush_answer.Flush.{Flush}
 use Rattle.path_flush.specs.declared.flush_answer.Flush.TheVariants as flush
 use Rattle.write_path.specs.declared.prepared.Prepared.{Prepared}
-use Rattle.path_flush.specs.declared.switch_answer.Row.TheVariants.{AppendGroups}
 use Rattle.write_path.specs.Commits.{WritesEndBelow}
 use Rattle.path_flush.specs.OwnWrites.{writes_of}
 use Rattle.write_path.specs.Writes.{IsNoteOf, IsPrepared}
 use Rattle.clog_shares.specs.declared.fault.WriteFault.{WriteFault}
-use Rattle.clog_shares.specs.declared.fault.WriteFault.TheVariants.{
-  OutOfMemory,
-  Rows,
-  Spent,
-  Stopped,
-}
+use Rattle.clog_shares.specs.declared.fault.WriteFault.TheVariants.{OutOfMemory, Spent, Stopped}
 
 -- these are the writes of lines, one by one, with all of their memory
 abbrev pub ArePrepared : Sizes → List Line → List Prepared → Type 0
@@ -118,7 +89,6 @@ pub record LogsShare (writer : ℕ) (lines : List Line) (notes : List EntryNote)
 abbrev pub fault_of : SyncFault → WriteFault
 fault_of (LogStopped at_open now) = Stopped at_open now
 fault_of NoMemory = OutOfMemory
-fault_of (NoRows groups) = Rows AppendGroups groups
 
 -- why a write was not logged, or not made lasting where it waited for that, if it was not
 abbrev pub refusal_in : Commit → Option WriteFault
@@ -132,14 +102,12 @@ abbrev pub refusal_of : SyncAnswer → Option WriteFault
 refusal_of (sync.Done key) = None
 refusal_of (sync.Stopped at_open now) = Some (Stopped at_open now)
 refusal_of sync.OutOfMemory = Some OutOfMemory
-refusal_of (sync.Rows groups) = Some (Rows AppendGroups groups)
 
 -- why a flush was refused, if it was: not where another seat has the turn
 abbrev pub refusal_by : Flush → Option WriteFault
 refusal_by (flush.Flushed lower upper) = None
 refusal_by (flush.Empty key) = None
 refusal_by (flush.Busy found) = None
-refusal_by (flush.Rows row made) = Some (Rows row made)
 refusal_by (flush.Stopped at_open now) = Some (Stopped at_open now)
 refusal_by flush.OutOfMemory = Some OutOfMemory
 
@@ -149,13 +117,11 @@ LacksMemoryAtMost None = ⊤
 LacksMemoryAtMost (Some OutOfMemory) = ⊤
 LacksMemoryAtMost (Some Spent) = ⊥
 LacksMemoryAtMost (Some (Stopped at_open now)) = ⊥
-LacksMemoryAtMost (Some (Rows row made)) = ⊥
 
 -- a flush is finished
 abbrev pub is_finished : Flush → Bool
 is_finished (flush.Flushed lower upper) = true
 is_finished (flush.Empty key) = true
 is_finished (flush.Busy found) = false
-is_finished (flush.Rows row made) = false
 is_finished (flush.Stopped at_open now) = false
 is_finished flush.OutOfMemory = false

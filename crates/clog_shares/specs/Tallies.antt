@@ -1,20 +1,6 @@
 -- What a writer's tally tells of its seat while it logs.
-use Rattle.std.specs.Prelude.{
-  ◌≡◌,
-  ◌⊎◌,
-  ℕ,
-  ◌+◌,
-  ◌<◌,
-  ◌≤◌,
-  List,
-  min,
-  reverse,
-  slice_index,
-  Option,
-  Some,
-  None,
-  ⊤,
-}
+use Rattle.std.specs.Prelude.{◌≡◌, ◌⊎◌, ℕ, zero, suc, ◌+◌, ◌<◌, ◌≤◌, List, cond, min, nat_le}
+use Rattle.std.specs.Prelude.{reverse, slice_index, Option, Some, None, ⊤}
 use Rattle.clog_spec.specs.Sizes.{most_tables}
 use Rattle.path_core.specs.declared.event.Place.TheVariants.{TurnWord}
 use Rattle.path_core.specs.declared.event.Turn.TheVariants.{Flush as FlushTurn}
@@ -71,6 +57,15 @@ IsNotDue tally t = slice_index tally.counts t < tally.most
 abbrev pub AreNotDue : Option UpdateTally → Type 0
 AreNotDue None = ⊤
 AreNotDue (Some tally) = (t : ℕ) → t < most_tables → IsNotDue tally t
+
+-- one where a flush of the table is due, else none
+abbrev pub due_at : UpdateTally → ℕ → ℕ
+due_at tally t = cond (nat_le tally.most (slice_index tally.counts t)) 1 0
+
+-- of how many of the first tables one is
+abbrev pub due_below : ℕ → UpdateTally → ℕ
+due_below zero tally = 0
+due_below (suc n) tally = due_below n tally + due_at tally n
 
 -- Or it was tried: another seat was found to have the table's turn, at a step whose number is above
 -- this.

@@ -1,17 +1,11 @@
 //! The seats of a path are given to workers, and all workers commit their shares in threads. The
 //! first fault of a worker ends the run: the others stop behind their commits in hand.
-ghost use Rattle.std.specs.Prelude.{◌≡◌, ℕ, List, Option, Some, IsSome, true};
+ghost use Rattle.std.specs.Prelude.{◌≡◌, ℕ, ◌≤◌, List, Option, Some, IsSome, true};
 ghost use Rattle.clog_spec.specs.Sizes.{most_tables};
 ghost use Rattle.clog_mutation.specs.declared.mutation.Mutation.{Mutation};
 ghost use Rattle.clog_applied.specs.History.{Line};
-ghost use Rattle.clog_shares.specs.Crews.{
-  AreDealt,
-  AreReady,
-  HasLogged,
-  HaveLogged,
-  IsReady,
-  IsSizedAs,
-};
+ghost use Rattle.clog_shares.specs.Crews.{AreDealt, AreReady, HasLogged, HaveLogged, IsReady};
+ghost use Rattle.clog_shares.specs.Crews.{IsSizedAs};
 ghost use Rattle.clog_shares.specs.Sealing.{WaitShares, WaitsShare};
 ghost use Rattle.clog_shares.specs.Timed.{TimeShares, TimesShare};
 ghost use Rattle.sync_core.specs.declared.SyncCore.TheVariants.{Batch, Periodic};
@@ -66,7 +60,8 @@ pub fn seat_all<K: Keeper + Drop>(
 
 /// Each worker commits its share in a thread of its own, where one can be started. In periodic mode
 /// each asks the clock behind each of its writes, and its first period runs from the opening. Once
-/// one has a fault, each other one stops behind its commit in hand.
+/// one has a fault, each other one stops behind its commit in hand. Where the workers flush, they
+/// do so at one update of a table or more.
 pub fn commit_all<'a, R: Threads + Wait + Sync, K: Keeper + Send, G: Gate + Sync, C: Clock + Sync>(
     rt: &R,
     alloc: Global,
@@ -85,6 +80,7 @@ pub fn commit_all<'a, R: Threads + Wait + Sync, K: Keeper + Send, G: Gate + Sync
     requires mode { path.now.mode ≡ syncing.mode }
     requires tables { sizes.tables ≡ most_tables }
     requires files { IsSome flush_at → path.now.table.size.files ≡ true }
+    requires some { (most : ℕ) → flush_at ≡ Some most → 1 ≤ most }
     ensures logged { (mutations : List Mutation)
         → AreReady path.now.table.table.shared.table_id path.now.table.size sizes flush_at
         mutations workers.old

@@ -4,7 +4,7 @@ ghost use Rattle.clog_shares.specs.Shares.{LacksMemoryAtMost, refusal_by, refusa
 ghost use Rattle.path_rule.specs.declared.answer.SyncAnswer.TheVariants.{Done};
 
 use std::alloc::{AllocError, AllocFailed};
-use write_path::{Flush, Row, SyncAnswer};
+use write_path::{Flush, SyncAnswer};
 
 /// Why lines were not all logged by their writers.
 #[derive(Clone, Copy, Debug, PartialEq, Eq)]
@@ -21,10 +21,6 @@ pub enum WriteFault {
         /// The count now.
         now: u64,
     },
-    /// A further word of a row is wanted, of which all are in use: this many. A sync wants one for
-    /// a group of the append order; a flush also one for a memtable, of which each but the first
-    /// takes as many updates of its table as writers flush at.
-    Rows(Row, u64),
 }
 
 /// Why no line is written: what is taken before the first of them was refused.
@@ -76,7 +72,6 @@ pub(crate) fn refusal_of(answer: SyncAnswer) -> Option<WriteFault>
         SyncAnswer::Done(_) => None,
         SyncAnswer::Stopped { at_open, now } => Some(WriteFault::Stopped { at_open, now }),
         SyncAnswer::OutOfMemory => Some(WriteFault::OutOfMemory),
-        SyncAnswer::Rows(groups) => Some(WriteFault::Rows(Row::AppendGroups, groups)),
     }
 }
 
@@ -86,7 +81,6 @@ pub(crate) fn refusal_by(answer: Flush) -> Option<WriteFault>
 {
     match answer {
         Flush::Flushed { .. } | Flush::Empty(_) | Flush::Busy(_) => None,
-        Flush::Rows(row, made) => Some(WriteFault::Rows(row, made)),
         Flush::Stopped { at_open, now } => Some(WriteFault::Stopped { at_open, now }),
         Flush::OutOfMemory => Some(WriteFault::OutOfMemory),
     }

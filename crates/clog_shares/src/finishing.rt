@@ -1,10 +1,11 @@
 //! At the end of its share a writer flushes until no table is due: where another writer has a
 //! table's turn, it tries again, unless a writer has had a fault.
-ghost use Rattle.std.specs.Prelude.{◌≡◌, IsSome, Some, None, true};
+ghost use Rattle.std.specs.Prelude.{◌≡◌, ℕ, ◌+◌, ◌≤◌, ◌^◌, IsSome, Some, None, true};
 ghost use Rattle.clog_spec.specs.Sizes.{most_tables};
-ghost use Rattle.clog_shares.specs.Crews.{KnowsWhy, MayLack};
+ghost use Rattle.clog_shares.specs.Crews.{KnowsWhy};
 ghost use Rattle.clog_shares.specs.Tallied.{ArePaid, HasFlushedAll};
 ghost use Rattle.clog_shares.specs.Tallies.{MayTally, Tallies, limit_of};
+ghost use Rattle.path_rule.specs.Issued.{issued_in};
 ghost use Rattle.path_table.specs.Members.{IsOf, view_of};
 ghost use Rattle.write_path.specs.Commits.{KeepsList};
 
@@ -31,9 +32,13 @@ fn flush_until_none<R: Wait, K: Keeper>(
     requires table { IsOf path.now.table.table.shared.table_id path.now.table.size seat.member }
     requires files { path.now.table.size.files ≡ true }
     requires tables { path.now.table.size.tables ≡ most_tables }
+    requires some { 1 ≤ tally.most }
+    requires spends { issued_in (view_of seat.member).trail + 128 ≤ 2 ^ 40 }
     ensures keeps { KeepsList path.now.table.table.shared.table_id path.now.table.size seat.member
         result.0.member }
     ensures why { KnowsWhy path.now.table.size result.1 result.0 }
+    ensures issued { issued_in (view_of result.0.member).trail
+        ≤ 128 + issued_in (view_of seat.member).trail }
     ensures flushed { result.1 ≡ None
         → Tallies seat.member.number tally (view_of seat.member).trail
         → HasFlushedAll (Some tally.most) result.0 }
@@ -75,10 +80,13 @@ pub(crate) fn flush_rest<R: Wait, K: Keeper>(
     requires table { IsOf path.now.table.table.shared.table_id path.now.table.size seat.member }
     requires files { IsSome (limit_of tally) → path.now.table.size.files ≡ true }
     requires tables { path.now.table.size.tables ≡ most_tables }
+    requires some { (most : ℕ) → limit_of tally ≡ Some most → 1 ≤ most }
+    requires spends { issued_in (view_of seat.member).trail + 128 ≤ 2 ^ 40 }
     ensures keeps { KeepsList path.now.table.table.shared.table_id path.now.table.size seat.member
         result.0.member }
     ensures why { KnowsWhy path.now.table.size result.1 result.0 }
-    ensures rows { MayLack (limit_of tally) result.1 }
+    ensures issued { issued_in (view_of result.0.member).trail
+        ≤ 128 + issued_in (view_of seat.member).trail }
     ensures flushed { result.1 ≡ None
         → MayTally seat.member.number tally (view_of seat.member).trail
         → HasFlushedAll (limit_of tally) result.0 }

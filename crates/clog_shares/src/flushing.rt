@@ -2,35 +2,15 @@
 //! of it (Cassandra's memtable cleaner, which flushes once a limit is reached). Where another
 //! writer has the table's turn, the count stays, and the flush stays due. So each memtable that is
 //! opened is paid for by as many updates of its table.
-ghost use Rattle.std.specs.Prelude.{
-  ◌≡◌,
-  ◌≢◌,
-  ◌<◌,
-  ◌≤◌,
-  ℕ,
-  IsSome,
-  Some,
-  None,
-  false,
-  length,
-  slice_index,
-  slice_set,
-  true,
-};
+ghost use Rattle.std.specs.Prelude.{◌≡◌, ◌≢◌, ◌+◌, ◌*◌, ◌^◌, ◌<◌, ◌≤◌, ℕ, IsSome, Some, None};
+ghost use Rattle.std.specs.Prelude.{false, length, slice_index, slice_set, true};
 ghost use Rattle.clog_spec.specs.Sizes.{most_tables};
-ghost use Rattle.clog_shares.specs.Crews.{KnowsWhy, MayLack};
+ghost use Rattle.clog_shares.specs.Crews.{KnowsWhy};
 ghost use Rattle.clog_shares.specs.Shares.{is_finished};
 ghost use Rattle.clog_shares.specs.Tallied.{ArePaid};
-ghost use Rattle.clog_shares.specs.Tallies.{
-  AreNotDue,
-  AreTried,
-  IsNotDue,
-  IsTried,
-  MayTally,
-  MayTry,
-  Tallies,
-  limit_of,
-};
+ghost use Rattle.clog_shares.specs.Tallies.{AreNotDue, AreTried, IsNotDue, IsTried, MayTally};
+ghost use Rattle.clog_shares.specs.Tallies.{MayTry, Tallies, due_at, due_below, limit_of};
+ghost use Rattle.path_rule.specs.Issued.{issued_in};
 ghost use Rattle.path_table.specs.Members.{IsOf, view_of};
 ghost use Rattle.write_path.specs.Commits.{KeepsList};
 
@@ -52,7 +32,7 @@ fn tally_behind(tally: UpdateTally, table: Table, answer: Flush) -> UpdateTally
 {
     match answer {
         Flush::Flushed { .. } | Flush::Empty(_) => tally.without(table),
-        Flush::Busy(_) | Flush::Rows(_, _) | Flush::Stopped { .. } | Flush::OutOfMemory => tally,
+        Flush::Busy(_) | Flush::Stopped { .. } | Flush::OutOfMemory => tally,
     }
 }
 
@@ -69,6 +49,7 @@ fn flush_table<R: Wait, K: Keeper>(
     requires files { path.now.table.size.files ≡ true }
     requires tables { path.now.table.size.tables ≡ most_tables }
     requires there { table.0 < most_tables }
+    requires spends { issued_in (view_of seat.member).trail ≤ 2 ^ 40 }
     ensures keeps { KeepsList path.now.table.table.shared.table_id path.now.table.size seat.member
         result.0.member }
     ensures why { KnowsWhy path.now.table.size result.2 result.0 }
@@ -78,6 +59,11 @@ fn flush_table<R: Wait, K: Keeper>(
         → Tallies seat.member.number result.1 (view_of result.0.member).trail }
     ensures paid { Tallies seat.member.number tally (view_of seat.member).trail
         → ArePaid (Some tally.most) seat.member.number (view_of result.0.member).trail }
+    ensures issued { issued_in (view_of result.0.member).trail
+        ≤ 4 + issued_in (view_of seat.member).trail }
+    ensures spends { result.2 ≡ None → 1 ≤ tally.most
+        → issued_in (view_of result.0.member).trail + 4 * due_at result.1 table.0
+        ≤ issued_in (view_of seat.member).trail + 4 * due_at tally table.0 }
     ensures idle { IsNotDue tally table.0 → (result.0 ≡ seat) × (result.1 ≡ tally) }
     ensures others { (t : ℕ) → t ≢ table.0
         → slice_index result.1.counts t ≡ slice_index tally.counts t }
@@ -103,6 +89,7 @@ pub(crate) fn flush_tables<R: Wait, K: Keeper>(
     requires table { IsOf path.now.table.table.shared.table_id path.now.table.size seat.member }
     requires files { path.now.table.size.files ≡ true }
     requires tables { path.now.table.size.tables ≡ most_tables }
+    requires spends { issued_in (view_of seat.member).trail + 64 ≤ 2 ^ 40 }
     ensures keeps { KeepsList path.now.table.table.shared.table_id path.now.table.size seat.member
         result.0.member }
     ensures why { KnowsWhy path.now.table.size result.2 result.0 }
@@ -112,6 +99,11 @@ pub(crate) fn flush_tables<R: Wait, K: Keeper>(
         → Tallies seat.member.number result.1 (view_of result.0.member).trail }
     ensures paid { Tallies seat.member.number tally (view_of seat.member).trail
         → ArePaid (Some tally.most) seat.member.number (view_of result.0.member).trail }
+    ensures issued { issued_in (view_of result.0.member).trail
+        ≤ 64 + issued_in (view_of seat.member).trail }
+    ensures spends { result.2 ≡ None → 1 ≤ tally.most
+        → issued_in (view_of result.0.member).trail + 4 * due_below most_tables result.1
+        ≤ issued_in (view_of seat.member).trail + 4 * due_below most_tables tally }
     ensures idle { ((t : ℕ) → t < most_tables → IsNotDue tally t)
         → (result.0 ≡ seat) × (result.1 ≡ tally) }
     ensures tried { result.2 ≡ None → AreTried (length (view_of seat.member).trail) result.1
@@ -143,10 +135,12 @@ pub(crate) fn flush_due<R: Wait, K: Keeper>(
     requires table { IsOf path.now.table.table.shared.table_id path.now.table.size seat.member }
     requires files { IsSome (limit_of tally) → path.now.table.size.files ≡ true }
     requires tables { path.now.table.size.tables ≡ most_tables }
+    requires spends { issued_in (view_of seat.member).trail + 64 ≤ 2 ^ 40 }
     ensures keeps { KeepsList path.now.table.table.shared.table_id path.now.table.size seat.member
         result.0.member }
     ensures why { KnowsWhy path.now.table.size result.2 result.0 }
-    ensures rows { MayLack (limit_of tally) result.2 }
+    ensures issued { issued_in (view_of result.0.member).trail
+        ≤ 64 + issued_in (view_of seat.member).trail }
     ensures limit { limit_of result.1 ≡ limit_of tally }
     ensures tallies { result.2 ≡ None
         → MayTally seat.member.number tally (view_of seat.member).trail

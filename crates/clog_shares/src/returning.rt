@@ -1,26 +1,9 @@
 //! The seats of a crew's workers come back, each behind a last sync of the log, and with them why
 //! lines were not all logged.
-ghost use Rattle.std.specs.Prelude.{
-  ◌≡◌,
-  ◌≤◌,
-  ℕ,
-  List,
-  [],
-  length,
-  Contains,
-  Option,
-  vec_capacity,
-};
+ghost use Rattle.std.specs.Prelude.{◌≡◌, ◌≤◌, ℕ, List, [], length, Contains, Option, vec_capacity};
 ghost use Rattle.clog_mutation.specs.declared.mutation.Mutation.{Mutation};
 ghost use Rattle.clog_applied.specs.History.{Line};
-ghost use Rattle.clog_shares.specs.Crews.{
-  HasEnded,
-  HasLogged,
-  HaveEnded,
-  HaveLogged,
-  KnowsWhy,
-  MayLack,
-};
+ghost use Rattle.clog_shares.specs.Crews.{HasEnded, HasLogged, HaveEnded, HaveLogged, KnowsWhy};
 ghost use Rattle.clog_shares.specs.Sealing.{HasWaited, HaveWaited, WaitShares, WaitsShare};
 ghost use Rattle.clog_shares.specs.Shares.{LacksMemoryAtMost};
 
@@ -49,7 +32,7 @@ fn end_share<R: Wait, K: Keeper + Drop>(
     ensures why { (flush : Option ℕ) (number : ℕ) (lines : List Line)
         → HasLogged path.now.table.table.shared.table_id path.now.table.size flush number lines
         worker
-        → KnowsWhy path.now.table.size result.1 result.0 × MayLack flush result.1 }
+        → KnowsWhy path.now.table.size result.1 result.0 }
     ensures waited { WaitsShare worker → HasWaited result.0 }
     ensures cause { LacksMemoryAtMost result.1 → LacksMemoryAtMost worker.fault }
 {

@@ -1,6 +1,6 @@
 //! What all writers of a run have in common: the path, when they sync and flush, and the flag by
 //! which the first fault stops them all.
-ghost use Rattle.std.specs.Prelude.{◌≡◌, IsSome, true};
+ghost use Rattle.std.specs.Prelude.{◌≡◌, ℕ, ◌≤◌, IsSome, Some, true};
 ghost use Rattle.clog_spec.specs.Sizes.{most_tables};
 ghost use Rattle.clog_shares.specs.Crews.{IsSizedAs};
 
@@ -34,4 +34,6 @@ pub(crate) struct Run<'a, K: Keeper, G, C> {
     ghost mode: { path.now.mode ≡ syncing.mode },
     ghost tables: { sizes.tables ≡ most_tables },
     ghost files: { IsSome flush_at → path.now.table.size.files ≡ true },
+    // They flush at some update at least.
+    ghost some: { (most : ℕ) → flush_at ≡ Some most → 1 ≤ most },
 }

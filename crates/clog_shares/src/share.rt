@@ -1,7 +1,7 @@
 //! A writer in its thread: it commits the writes of its share, one after another, and flushes at
 //! the end each table for which that is due still. It stops behind its commit in hand once a writer
 //! has had a fault.
-ghost use Rattle.std.specs.Prelude.{◌≡◌, ℕ, List, [], None};
+ghost use Rattle.std.specs.Prelude.{◌≡◌, ℕ, ◌*◌, ◌<◌, ◌≤◌, ◌^◌, List, [], length, None};
 ghost use Rattle.clog_applied.specs.History.{Line};
 ghost use Rattle.clog_shares.specs.Committed.{HasCommitted};
 ghost use Rattle.clog_shares.specs.Crews.{HasLogged, IsReady};
@@ -10,6 +10,7 @@ ghost use Rattle.clog_shares.specs.Shares.{ArePrepared};
 ghost use Rattle.clog_shares.specs.Tallied.{AreCountedFor, HasFlushedAll};
 ghost use Rattle.clog_shares.specs.Tallies.{MayTally, limit_of};
 ghost use Rattle.clog_shares.specs.Timed.{TimesShare};
+ghost use Rattle.path_rule.specs.Issued.{issued_in};
 ghost use Rattle.path_table.specs.Members.{IsOf, view_of};
 ghost use Rattle.sync_core.specs.declared.SyncCore.TheVariants.{Batch, Periodic};
 
@@ -41,11 +42,13 @@ fn commit_lines<R: Wait, K: Keeper, G: Gate, C: Clock>(
         IsOf t.table.shared.table_id t.size seat.member }
     requires prepared { (lines : List Line) × ArePrepared run.now.sizes lines writes.items
         × AreCountedFor run.now.flush_at lines counts.items }
+    requires few { length writes.items < 2 ^ 32 }
     requires unused { (view_of seat.member).trail ≡ [] }
     ensures committed { let t = run.now.path.now.table in let s = run.now.syncing in
         HasCommitted t.table.shared.table_id t.size run.now.sizes run.now.flush_at
         (C.tells run.now.clock.now) s.mode s.since_ms writes.items seat result.0 result.2 }
     ensures sealed { run.now.syncing.mode ≡ Batch → result.2 ≡ None → HasSealed result.0 }
+    ensures issued { issued_in (view_of result.0.member).trail ≤ 66 * length writes.items }
     ensures limit { limit_of result.1 ≡ run.now.flush_at }
     ensures tallies { result.2 ≡ None
         → MayTally seat.member.number result.1 (view_of result.0.member).trail }
@@ -90,6 +93,7 @@ fn commit_writes<R: Wait, K: Keeper, G: Gate, C: Clock>(
         IsOf t.table.shared.table_id t.size seat.member }
     requires prepared { (lines : List Line) × ArePrepared run.now.sizes lines writes.items
         × AreCountedFor run.now.flush_at lines counts.items }
+    requires few { length writes.items < 2 ^ 32 }
     requires unused { (view_of seat.member).trail ≡ [] }
     ensures committed { let t = run.now.path.now.table in let s = run.now.syncing in
         HasCommitted t.table.shared.table_id t.size run.now.sizes run.now.flush_at

@@ -2,10 +2,11 @@
 //! commit has the log synced; in periodic mode a writer asks the clock behind each of its commits
 //! whether the period has passed since it last had the log synced (`CommitLog.sync` at each period
 //! of `PeriodicCommitLogService`).
-ghost use Rattle.std.specs.Prelude.{◌≡◌, ℕ, MatchOption, None};
-ghost use Rattle.clog_shares.specs.Crews.{KnowsWhy, MayLack};
+ghost use Rattle.std.specs.Prelude.{◌≡◌, ℕ, ◌+◌, ◌≤◌, ◌^◌, MatchOption, None};
+ghost use Rattle.clog_shares.specs.Crews.{KnowsWhy};
 ghost use Rattle.clog_shares.specs.Tallied.{OpensNone};
 ghost use Rattle.clog_shares.specs.Timed.{HasNotSynced, KnowsSynced, SealsLast, SyncsWhenDue};
+ghost use Rattle.path_rule.specs.Issued.{issued_in};
 ghost use Rattle.path_table.specs.Members.{IsOf, view_of};
 ghost use Rattle.sync_core.specs.Due.{IsDue};
 ghost use Rattle.sync_core.specs.declared.SyncCore.TheVariants.{Batch, Periodic};
@@ -52,11 +53,13 @@ fn sync_seat<R: Wait, K: Keeper>(
     path: &WritePath<K, Global>,
     seat: PathSeat<K>,
 ) -> (PathSeat<K>, Option<WriteFault>)
-    requires { IsOf path.now.table.table.shared.table_id path.now.table.size seat.member }
+    requires table { IsOf path.now.table.table.shared.table_id path.now.table.size seat.member }
+    requires spends { issued_in (view_of seat.member).trail ≤ 2 ^ 40 }
     ensures keeps { KeepsList path.now.table.table.shared.table_id path.now.table.size seat.member
         result.0.member }
     ensures why { KnowsWhy path.now.table.size result.1 result.0 }
-    ensures rows { MayLack None result.1 }
+    ensures issued { issued_in (view_of result.0.member).trail
+        ≤ 1 + issued_in (view_of seat.member).trail }
     ensures opened { OpensNone (view_of seat.member).trail (view_of result.0.member).trail }
     ensures synced { result.1 ≡ None → KnowsSynced result.0 }
     ensures seals { result.1 ≡ None → SealsLast seat result.0 }
@@ -77,11 +80,13 @@ pub(crate) fn sync_when_due<R: Wait, K: Keeper, C: Clock>(
     last_ms: u64,
     seat: PathSeat<K>,
 ) -> (PathSeat<K>, u64, Option<WriteFault>)
-    requires { IsOf path.now.table.table.shared.table_id path.now.table.size seat.member }
+    requires table { IsOf path.now.table.table.shared.table_id path.now.table.size seat.member }
+    requires spends { issued_in (view_of seat.member).trail ≤ 2 ^ 40 }
     ensures keeps { KeepsList path.now.table.table.shared.table_id path.now.table.size seat.member
         result.0.member }
     ensures why { KnowsWhy path.now.table.size result.2 result.0 }
-    ensures rows { MayLack None result.2 }
+    ensures issued { issued_in (view_of result.0.member).trail
+        ≤ 1 + issued_in (view_of seat.member).trail }
     ensures opened { OpensNone (view_of seat.member).trail (view_of result.0.member).trail }
     ensures due { (period : ℕ) → mode ≡ Periodic period
         → SyncsWhenDue (C.tells clock.now) mode last_ms seat result.0 result.1 result.2 }

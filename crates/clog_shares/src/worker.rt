@@ -1,15 +1,16 @@
 //! A writer, and how it commits one write. In batch mode the commit waits for the sync of its
 //! entry; in periodic mode the writer has the log synced behind it where the period has passed.
 //! Then it flushes the tables of which it has logged so many updates, where it flushes.
-ghost use Rattle.std.specs.Prelude.{◌≡◌, ℕ, None, length};
+ghost use Rattle.std.specs.Prelude.{◌≡◌, ℕ, ◌+◌, ◌<◌, ◌≤◌, ◌^◌, None, length};
 ghost use Rattle.clog_mutation.specs.declared.mutation.Mutation.{Mutation};
 ghost use Rattle.clog_applied.specs.History.{Line};
-ghost use Rattle.clog_shares.specs.Crews.{KnowsWhy, MayLack};
+ghost use Rattle.clog_shares.specs.Crews.{KnowsWhy};
 ghost use Rattle.clog_shares.specs.Sealing.{HasSealed, HasWaited};
 ghost use Rattle.clog_shares.specs.Tallied.{ArePaid, IsCountedFor, OpensNone};
 ghost use Rattle.clog_shares.specs.Tallies.{MayTally, MayTry, limit_of};
 ghost use Rattle.clog_shares.specs.Timed.{TimesWrite};
 ghost use Rattle.clog_shares.specs.Shares.{AddsWrite, MayAddWrite, fault_of, refusal_in};
+ghost use Rattle.path_rule.specs.Issued.{issued_in};
 ghost use Rattle.path_table.specs.Members.{IsOf, view_of};
 ghost use Rattle.sync_core.specs.declared.SyncCore.TheVariants.{Batch, Periodic};
 ghost use Rattle.path_flush.specs.Grown.{HasGrown};
@@ -26,7 +27,7 @@ use clog_io::{Clock, Gate};
 use path_core::Keeper;
 use std::alloc::Global;
 use std::sync::Wait;
-use write_path::{Commit, PathSeat, Prepared, Row, SyncFault};
+use write_path::{Commit, PathSeat, Prepared, SyncFault};
 
 /// A writer: its seat of the path, and the writes of its share.
 #[derive(Drop)]
@@ -48,7 +49,6 @@ fn fault_of(fault: SyncFault) -> WriteFault
     match fault {
         SyncFault::Stopped { at_open, now } => WriteFault::Stopped { at_open, now },
         SyncFault::OutOfMemory => WriteFault::OutOfMemory,
-        SyncFault::Rows(groups) => WriteFault::Rows(Row::AppendGroups, groups),
     }
 }
 
@@ -77,6 +77,7 @@ fn commit_one<R: Wait, K: Keeper, G: Gate, C: Clock>(
     requires table { let t = run.now.path.now.table in
         IsOf t.table.shared.table_id t.size seat.member }
     requires prepared { (line : ℕ) × (m : Mutation) × IsPrepared run.now.sizes line m prepared }
+    requires spends { issued_in (view_of seat.member).trail < 2 ^ 40 }
     ensures same { let t = run.now.path.now.table in
         Stays t.table.shared.table_id t.size seat.member result.0.member }
     ensures grown { HasGrown (view_of seat.member).trail (view_of result.0.member).trail }
@@ -85,7 +86,8 @@ fn commit_one<R: Wait, K: Keeper, G: Gate, C: Clock>(
     ensures may { MayAddWrite seat.member.number prepared (view_of seat.member).trail
         (view_of result.0.member).trail }
     ensures why { KnowsWhy run.now.path.now.table.size result.2 result.0 }
-    ensures rows { MayLack None result.2 }
+    ensures issued { issued_in (view_of result.0.member).trail
+        ≤ 2 + issued_in (view_of seat.member).trail }
     ensures opened { OpensNone (view_of seat.member).trail (view_of result.0.member).trail }
     ensures sealed { run.now.syncing.mode ≡ Batch → HasSealed seat → result.2 ≡ None
         → HasSealed result.0 }
@@ -126,6 +128,7 @@ pub(crate) fn commit_next<R: Wait, K: Keeper, G: Gate, C: Clock>(
         IsOf t.table.shared.table_id t.size seat.member }
     requires prepared { (line : ℕ) × (m : Mutation) × IsPrepared run.now.sizes line m prepared }
     requires limit { limit_of tally ≡ run.now.flush_at }
+    requires spends { issued_in (view_of seat.member).trail + 66 ≤ 2 ^ 40 }
     ensures same { let t = run.now.path.now.table in
         Stays t.table.shared.table_id t.size seat.member result.0.member }
     ensures logged { result.3 ≡ None → AddsWrite seat.member.number prepared
@@ -133,7 +136,8 @@ pub(crate) fn commit_next<R: Wait, K: Keeper, G: Gate, C: Clock>(
     ensures may { MayAddWrite seat.member.number prepared (view_of seat.member).trail
         (view_of result.0.member).trail }
     ensures why { KnowsWhy run.now.path.now.table.size result.3 result.0 }
-    ensures rows { MayLack (limit_of tally) result.3 }
+    ensures issued { issued_in (view_of result.0.member).trail
+        ≤ 66 + issued_in (view_of seat.member).trail }
     ensures sealed { run.now.syncing.mode ≡ Batch → HasSealed seat → result.3 ≡ None
         → HasSealed result.0 }
     ensures waited { run.now.syncing.mode ≡ Batch → HasSealed seat → HasWaited result.0 }

@@ -17,7 +17,7 @@ use std::sync::Wait;
 use std::test::Fail;
 use std::thread::Threads;
 use sync_core::SyncCore;
-use write_path::{Commit, Flush, PathSeat, Prepared, WritePath};
+use write_path::{Commit, Flush, MOST_ISSUED, PathSeat, Prepared, WritePath};
 
 /// Between a table and a value's length: column `c`, timestamp 1.
 const BEHIND_TABLE: &[u8] = b"\x00\x01c\x00\x00\x00\x00\x00\x00\x00\x01\x01";
@@ -115,15 +115,21 @@ impl Alone {
         };
         let write = prepared(alloc, sizes, line, payload)?;
         let Alone { path, seat } = self;
+        if seat.issued() > MOST_ISSUED {
+            return Err(Fail::new("too many barriers"));
+        }
         let (seat, commit) = path.commit(rt, alloc, seat, write, &OpenGate::new());
         Ok((Alone { path, seat }, commit))
     }
 
     /// Table 0 is flushed.
-    pub(crate) fn flush<R: Wait>(self, rt: &R, alloc: Global) -> (Alone, Flush) {
+    pub(crate) fn flush<R: Wait>(self, rt: &R, alloc: Global) -> Result<(Alone, Flush), Fail> {
         let Alone { path, seat } = self;
+        if seat.issued() > MOST_ISSUED {
+            return Err(Fail::new("too many barriers"));
+        }
         let (seat, flush) = path.flush(rt, alloc, seat, Table(0));
-        (Alone { path, seat }, flush)
+        Ok((Alone { path, seat }, flush))
     }
 
     /// The disk, once the path is closed.

@@ -219,21 +219,3 @@ fn want_of_memory_has_its_number_and_its_line(rt: HostRuntime) {
         b"error 9: out of memory\n".as_slice()
     );
 }
-
-// A run that wants so many groups takes as many syncs, and one that wants so many memtables as many
-// flushes.
-#[test]
-fn want_of_words_has_its_number_and_its_line(rt: HostRuntime) {
-    let groups = Status::Groups(65_536);
-    assert_eq!(rt; groups.number(), 10);
-    assert_eq!(rt;
-        FaultLine::new(&groups).as_bytes(),
-        b"error 10: limit groups 65536\n".as_slice()
-    );
-    let memtables = Status::Memtables(256);
-    assert_eq!(rt; memtables.number(), 10);
-    assert_eq!(rt;
-        FaultLine::new(&memtables).as_bytes(),
-        b"error 10: limit memtables 256\n".as_slice()
-    );
-}

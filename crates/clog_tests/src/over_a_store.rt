@@ -96,7 +96,7 @@ fn flush_segments<R: Threads + Wait>(rt: &R, alloc: Global) -> Result<(Flush, Me
     let (alone, _first) = alone.commit(rt, alloc, 1, payload.as_slice())?;
     let (alone, _second) = alone.commit(rt, alloc, 2, payload.as_slice())?;
     let (alone, _third) = alone.commit(rt, alloc, 3, payload.as_slice())?;
-    let (alone, flush) = alone.flush(rt, alloc);
+    let (alone, flush) = alone.flush(rt, alloc)?;
     Ok((flush, alone.close(rt, alloc)?))
 }
 
@@ -113,9 +113,9 @@ fn a_flush_drops_the_segments_that_its_file_covers(rt: HostRuntime) -> Result<()
 fn flush_thrice<R: Threads + Wait>(rt: &R, alloc: Global) -> Result<([Flush; 3], MemDisk), Fail> {
     let alone = Alone::open(alloc, MemDisk::new(alloc), PERIODIC)?;
     let (alone, _commit) = alone.commit(rt, alloc, 1, DELETION)?;
-    let (alone, first) = alone.flush(rt, alloc);
-    let (alone, second) = alone.flush(rt, alloc);
-    let (alone, third) = alone.flush(rt, alloc);
+    let (alone, first) = alone.flush(rt, alloc)?;
+    let (alone, second) = alone.flush(rt, alloc)?;
+    let (alone, third) = alone.flush(rt, alloc)?;
     Ok(([first, second, third], alone.close(rt, alloc)?))
 }
 

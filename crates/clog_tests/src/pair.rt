@@ -20,7 +20,7 @@ use std::sync::Wait;
 use std::test::Fail;
 use std::thread::Threads;
 use sync_core::SyncCore;
-use write_path::{Commit, Flush, PathSeat, Prepared, WritePath};
+use write_path::{Commit, Flush, MOST_ISSUED, PathSeat, Prepared, WritePath};
 
 // A path over a keeper that was just opened, for table files, and its two seats.
 fn both_seated<K: Keeper + Drop>(
@@ -65,6 +65,9 @@ fn made_lasting<R: Wait, K: Keeper>(
     ensures { IfOk result (λ s. Stays path.now.table.table.shared.table_id path.now.table.size
         seat.member s.member) }
 {
+    if seat.issued() > MOST_ISSUED {
+        return Err(Fail::new("too many barriers"));
+    }
     match path.commit(rt, alloc, seat, write, &OpenGate::new()) {
         (seat, Commit::Durable(_)) => Ok(seat),
         _ => Err(Fail::new("a commit that does not last")),
@@ -152,6 +155,9 @@ impl Pair {
             zero,
             one,
         } = self;
+        if zero.issued() > MOST_ISSUED {
+            return Err(Fail::new("too many barriers"));
+        }
         match path.flush(rt, alloc, zero, Table(1)) {
             (zero, Flush::Flushed { .. }) => Ok(Pair {
                 path,

@@ -22,5 +22,4 @@ pub mod OneWriter
 pub mod Settling
 pub mod Brought
 pub mod SegmentOrder
-pub mod ShareUpdates
 pub mod WorkedUpdates

@@ -1,37 +1,12 @@
 -- A crew runs: its workers are lent to functions, and what becomes of their shares.
-use Rattle.std.proofs.Common.{
-  ◌≡◌,
-  ℕ,
-  suc,
-  ◌+◌,
-  ◌*◌,
-  ◌<◌,
-  ◌≤◌,
-  Bool,
-  false,
-  List,
-  [],
-  ◌∷◌,
-  ◌++◌,
-  get_or,
-  length,
-  take,
-  Option,
-  Some,
-  None,
-  refl,
-  sym,
-  ap,
-  ◌∙◌,
-  subst,
-  arith,
-}
+use Rattle.std.proofs.Common.{◌≡◌, ℕ, suc, ◌+◌, ◌-◌, ◌*◌, ◌^◌, ◌<◌, ◌≤◌, Bool, false, List, [], ◌∷◌}
+use Rattle.std.proofs.Common.{◌++◌, get_or, length, take, Option, Some, None, refl, sym, ap, ◌∙◌}
+use Rattle.std.proofs.Common.{subst, arith}
 use Rattle.std.specs.Prelude.{Contains, is_some}
 use Rattle.std.specs.List.{range_with_len}
 use Rattle.std.specs.List.Sorted.{IsPermutation}
-use Rattle.std.proofs.Math.Nat.{mul-le-mul_left}
 use Rattle.std.proofs.lemmas.List.Elements.{All-contains}
-use Rattle.std.proofs.lemmas.List.Sorted.{IsPermutation-refl, length_permutation}
+use Rattle.std.proofs.lemmas.List.Sorted.{IsPermutation-refl}
 use Rattle.std.proofs.lemmas.Option.{none-some, same_Some}
 use Rattle.atomic_table.specs.Seated.{TableId}
 use Rattle.clog_base.specs.declared.sizes.Sizes.{Sizes}
@@ -46,62 +21,24 @@ use Rattle.path_table.specs.declared.trying.PathSeat.{PathSeat}
 use Rattle.clog_closing.specs.Beside.{HasGoodDeeds}
 use Rattle.clog_closing.specs.Drained.{HasNoDeeds}
 use Rattle.clog_closing.proofs.Good.{good_of_none}
-use Rattle.path_flush.specs.declared.switch_answer.Row.{Row}
-use Rattle.path_flush.specs.declared.switch_answer.Row.TheVariants.{
-  AppendGroups,
-  Memtables,
-  WriteGroups,
-}
-use Rattle.write_path.specs.Closed.{
-  AreStoppedFor,
-  FindsGroupsTo,
-  FindsWriteGroupsTo,
-  IsOutcome,
-  StaysBeside,
-  all_writes,
-}
+use Rattle.write_path.specs.Closed.{AreStoppedFor, IsOutcome, StaysBeside}
 use Rattle.write_path.specs.Opened.{ShowsAsBefore, numbers_of, size_of, sized_for}
 use Rattle.write_path.proofs.BesideStays.{stays_beside}
 use Rattle.write_path.proofs.NonePassed.{logged_passes_none}
 use Rattle.write_path.proofs.Spending.{segments_spent}
 use Rattle.clog_shares.specs.declared.fault.WriteFault.{WriteFault}
-use Rattle.clog_shares.specs.declared.fault.WriteFault.TheVariants.{
-  OutOfMemory,
-  Rows,
-  Spent,
-  Stopped,
-}
+use Rattle.clog_shares.specs.declared.fault.WriteFault.TheVariants.{OutOfMemory, Spent, Stopped}
 use Rattle.clog_shares.specs.declared.worker.Worker.{Worker}
-use Rattle.clog_shares.specs.Crews.{
-  AreDealt,
-  AreReady,
-  HaveEnded,
-  HaveLogged,
-  IsSizedAs,
-  KnowsRows,
-}
+use Rattle.clog_shares.specs.Crews.{AreDealt, AreReady, HaveEnded, HaveLogged, IsSizedAs}
 use Rattle.clog_shares.proofs.WrittenBack.{written_back}
-use Rattle.clog_writers.specs.Logged.{
-  EndsShares,
-  GoesOnBeside,
-  HaveFlushedShares,
-  HoldFirsts,
-  HoldShares,
-  IsLack,
-}
+use Rattle.clog_writers.specs.Logged.{EndsShares, GoesOnBeside, HaveFlushedShares, HoldFirsts}
+use Rattle.clog_writers.specs.Logged.{HoldShares}
 use Rattle.clog_shares.specs.Sealing.{WaitShares}
 use Rattle.clog_writers.proofs.Ending.{hold_shares, none_kept}
 use Rattle.clog_writers.proofs.FiledWell.{has_good}
-use Rattle.clog_writers.proofs.FirstLogged.{
-  hold_firsts,
-  in_order,
-  none_held,
-  none_in_log,
-  none_written,
-}
+use Rattle.clog_writers.proofs.FirstLogged.{hold_firsts, in_order, none_held, none_in_log}
+use Rattle.clog_writers.proofs.FirstLogged.{none_written}
 use Rattle.clog_writers.proofs.FlushedShares.{have_flushed}
-use Rattle.clog_shares.proofs.Opening.{newest_opened}
-use Rattle.clog_writers.proofs.ShareUpdates.{all_paid_for}
 use Rattle.clog_writers.proofs.Totals.{few_writes}
 
 -- a path that was opened with sizes has these
@@ -175,11 +112,6 @@ module _ {K : Type 0} where
 
 -- ---- what becomes of shares
 
--- a number that is there
-some_of : (flush : Option ℕ) → (flush ≡ None → ⊥) → (most : ℕ) × (flush ≡ Some most)
-some_of None some = absurd (some refl)
-some_of (Some most) some = (most, refl)
-
 not_stopped : (at_open n : ℕ) → Some OutOfMemory ≡ Some (Stopped at_open n) → ⊥
 not_stopped at_open n is =
     absurd (let no : OutOfMemory ≡ Stopped at_open n =
@@ -223,8 +155,6 @@ module _ {K : Type 0} (sizes : Sizes) (flush : Option ℕ) (base : ℕ) (before 
     stops = λ at_open n is. absurd (not_stopped at_open n is);
     spent = λ ms dealt no. absurd (let q : OutOfMemory ≡ Spent =
         same_Some OutOfMemory Spent no in cc);
-    rows = λ ms dealt row made no. absurd (let q : OutOfMemory ≡ Rows row made =
-        same_Some OutOfMemory (Rows row made) no in cc);
   }
 
   pub unopened : (workers : List (Worker K)) → ShowsAsBefore before now
@@ -257,36 +187,6 @@ module _ {K : Type 0} (sizes : Sizes) (flush : Option ℕ) (base : ℕ) (before 
     pub unseated : seats ≡ [] → (workers : List (Worker K))
         → EndsShares sizes flush base before now workers (Some OutOfMemory)
     unseated none workers = refused workers goes_on (none_written size seats end now o none)
-
-    -- why there was no further word
-    lack : (id : TableId) (ms : List Mutation) (fault : Option WriteFault)
-        → HaveEnded id size flush ms fault seats → (row : Row) (made : ℕ)
-        → fault ≡ Some (Rows row made) → (s : PathSeat K) → Contains seats s
-        → KnowsRows row made s → IsLack flush row made ms
-    lack id ms fault e AppendGroups made is s there knows =
-        let all = knows.0 in
-        let next = knows.1.1 in
-        let most = All-contains (FindsGroupsTo (length o.core.notes)) seats s o.few_groups there
-        knows.1.0 knows.1.2 in
-        let long = length_permutation (all_writes seats) o.core.notes o.of_writes in
-        let few = few_writes id size flush ms fault seats e in
-        (all, omega (arith, all, next, most, long, few))
-    lack id ms fault e Memtables made is s there (all, (t, low, last, next, found)) =
-        let limit = some_of flush (λ none.
-        absurd (let q : Memtables ≡ AppendGroups = e.lacks Memtables made is none in cc)) in
-        let most = limit.0 in
-        let least = newest_opened size seats end now o s there t last found in
-        let up = mul-le-mul_left most least in
-        let known : last ≡ 255 = omega (arith, all, next) in
-        let exact = ap (λ (k : ℕ). most * k) known in
-        let paid = all_paid_for id size flush ms fault seats e most limit.1 t low in
-        (all, (most, limit.1, (t, low, omega (arith, up, exact, paid))))
-    lack id ms fault e WriteGroups made is s there knows =
-        let all = knows.0 in
-        let next = knows.1.1 in
-        let most = All-contains (FindsWriteGroupsTo most_memtables) seats s o.few_write_groups
-        there knows.1.0 knows.1.2 in
-        absurd (omega (arith, all, next, most))
 
     module _ (id : TableId) (at_open : ℕ)
         (is : size ≡ sized_for (is_some flush) sizes base at_open) where
@@ -328,8 +228,4 @@ module _ {K : Type 0} (sizes : Sizes) (flush : Option ℕ) (base : ℕ) (before 
             let most = segments_spent size seats end now o k.0 k.1 k.2.0 k.2.1 k.2.2 k.2.3 in
             let few = few_writes id size flush ms fault seats e in
             let same = ap (λ (z : PathSize). z.ordinals) is in omega (arith, most, few, same);
-        rows = λ ms given row made no_word.
-            let e = ended ms given in
-            let k = e.rows row made no_word in
-            lack id ms fault e row made no_word k.0 k.1 k.2;
       }

@@ -1,49 +1,22 @@
 -- What a keeper holds once writers have logged their shares.
-use Rattle.std.specs.Prelude.{
-  ◌≡◌,
-  ℕ,
-  ◌+◌,
-  ◌-◌,
-  ◌*◌,
-  ◌<◌,
-  ◌≤◌,
-  ◌==◌,
-  Bool,
-  true,
-  List,
-  [],
-  ◌++◌,
-  length,
-  Option,
-  Some,
-  None,
-  IsTrue,
-  ⊤,
-}
-use Rattle.std.specs.List.{Contains, filter, sum_by}
+use Rattle.std.specs.Prelude.{◌≡◌, ℕ, ◌+◌, ◌-◌, ◌*◌, ◌<◌, ◌≤◌, ◌==◌, Bool, true, List, [], ◌++◌}
+use Rattle.std.specs.Prelude.{length, Option, Some, None, IsTrue, ⊤}
+use Rattle.std.specs.List.{Contains, filter}
 use Rattle.clog_spec.specs.Sizes.{most_tables}
 use Rattle.clog_base.specs.declared.sizes.Sizes.{Sizes}
 use Rattle.clog_mutation.specs.declared.mutation.Mutation.{Mutation}
-use Rattle.clog_applied.specs.Flushed.{updates_of}
 use Rattle.clog_applied.specs.History.{Line, share_of}
 use Rattle.path_core.specs.declared.note.EntryNote.{EntryNote}
 use Rattle.path_core.specs.History.{IsHistory}
 use Rattle.path_core.specs.Keeper.{Holding, IsFiledIn}
 use Rattle.path_core.specs.Parts.{touches}
 use Rattle.path_core.specs.Whole.{IsWhole}
-use Rattle.path_rule.specs.Layout.{group_rows, memtable_rows}
 use Rattle.path_rule.specs.Limits.{most_memtables}
 use Rattle.clog_closing.specs.Beside.{HasGoodDeeds}
 use Rattle.clog_closing.specs.Drained.{HasNoDeeds}
-use Rattle.path_flush.specs.declared.switch_answer.Row.{Row}
-use Rattle.path_flush.specs.declared.switch_answer.Row.TheVariants.{
-  AppendGroups,
-  Memtables,
-  WriteGroups,
-}
 use Rattle.write_path.specs.Closed.{PassesNoSegment}
 use Rattle.clog_shares.specs.declared.fault.WriteFault.{WriteFault}
-use Rattle.clog_shares.specs.declared.fault.WriteFault.TheVariants.{Rows, Spent, Stopped}
+use Rattle.clog_shares.specs.declared.fault.WriteFault.TheVariants.{Spent, Stopped}
 use Rattle.clog_shares.specs.declared.worker.Worker.{Worker}
 use Rattle.clog_shares.specs.Crews.{AreDealt}
 use Rattle.clog_shares.specs.Shares.{AreFirstWrites, AreWritesOf}
@@ -109,22 +82,6 @@ HaveFlushedShares None writers now = ⊤
 HaveFlushedShares (Some most) writers now = (t writer : ℕ) → t < most_tables → writer < writers
     → HasFlushedShare most t writer now
 
--- There are words for so many memtables, and some table has as many updates as writers flush at,
--- for each of them but the first.
-abbrev pub HasManyUpdates : Option ℕ → ℕ → List Mutation → Type 0
-HasManyUpdates flush made mutations = (made ≡ memtable_rows) × ((most : ℕ) × (flush ≡ Some most)
-    × ((t : ℕ) × (t < most_tables)
-    × ((memtable_rows - 1) * most ≤ sum_by (updates_of (record { 0 = t })) mutations)))
-
--- why there is no further word: for a group of the append order only where there are as many lines
--- as groups, but for the first; for a memtable only where a table has many updates; for a group of
--- the write order never
-abbrev pub IsLack : Option ℕ → Row → ℕ → List Mutation → Type 0
-IsLack flush AppendGroups made mutations =
-    (made ≡ group_rows) × (group_rows ≤ 1 + length mutations)
-IsLack flush Memtables made mutations = HasManyUpdates flush made mutations
-IsLack flush WriteGroups made mutations = ⊥
-
 -- What became of the shares that were dealt out to workers: where nothing was refused all of them
 -- are logged, and flushed where writers flush. Whatever was, what is lasting and what is kept are
 -- the first of each.
@@ -146,6 +103,3 @@ pub record EndsShares {K : Type 0} (sizes : Sizes) (flush : Option ℕ) (base : 
   -- it has no room only for many lines
   pub spent : (mutations : List Mutation) → AreDealt sizes flush mutations workers
       → fault ≡ Some Spent → sizes.ordinals ≤ 1 + (2 * length mutations - 1)
-  -- and no further word only so
-  pub rows : (mutations : List Mutation) → AreDealt sizes flush mutations workers → (row : Row)
-      (made : ℕ) → fault ≡ Some (Rows row made) → IsLack flush row made mutations

@@ -2,20 +2,8 @@
 //! table with an entry that lies in none yet, from where the table's last one ends; then, also
 //! where writers have flushed, the segments go for which table files stand. Where the entries stand
 //! is told by the path alone, so the memory for a drain's cells is asked for behind them.
-ghost use Rattle.std.specs.Prelude.{
-  ◌≡◌,
-  ◌⊎◌,
-  ◌≤◌,
-  ℕ,
-  [],
-  IfOk,
-  None,
-  OnOk,
-  Some,
-  false,
-  length,
-  true,
-};
+ghost use Rattle.std.specs.Prelude.{◌≡◌, ◌⊎◌, ◌≤◌, ℕ, [], IfOk, None, OnOk, Some, false, length};
+ghost use Rattle.std.specs.Prelude.{true};
 ghost use Rattle.clog_io.specs.Causes.{Rose};
 ghost use Rattle.clog_layout.specs.Ends.{synced_to};
 ghost use Rattle.clog_closing.specs.Beside.{HasGoodDeeds};
@@ -28,14 +16,9 @@ ghost use Rattle.clog_memtable.specs.Filling.{AreWhole};
 ghost use Rattle.clog_memtable.specs.Touched.{AreMemtablesOf};
 ghost use Rattle.clog_segments.specs.NoteLog.{IsNoteLog};
 ghost use Rattle.clog_segments.specs.StoreState.{holding_of};
-ghost use Rattle.clog_shares.specs.declared.fault.WriteFault.TheVariants.{
-  Rows,
-  Spent,
-  Stopped,
-};
+ghost use Rattle.clog_shares.specs.declared.fault.WriteFault.TheVariants.{Spent, Stopped};
 ghost use Rattle.clog_writers.specs.Settled.{Settles};
 ghost use Rattle.clog_writers.specs.Written.{refused_as};
-ghost use Rattle.path_flush.specs.declared.switch_answer.Row.{Row};
 
 use clog_base::{Key, OutOfMemory};
 use clog_disk::Disk;
@@ -142,8 +125,6 @@ pub(crate) fn settle_asked<D: Disk>(
         (holding_of D.files D.changes D.moment D.faults D.row.coded.code store.old)
         (holding_of D.files D.changes D.moment D.faults D.row.coded.code store.new) }
     ensures spent { result ≡ Some Spent → fault ≡ Some Spent }
-    ensures rows { (row : Row) (made : ℕ) → result ≡ Some (Rows row made)
-        → fault ≡ Some (Rows row made) }
     ensures begun { flushing ≡ false → HasNoDeeds
         (holding_of D.files D.changes D.moment D.faults D.row.coded.code store.new)
         ⊎ ((drain ≡ true) × (fault ≡ None) × HasBegun

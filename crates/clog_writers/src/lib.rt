@@ -20,6 +20,5 @@ pub use laws::{
 pub use logging::log_shares;
 pub use rows::{
     a_flush_leaves_no_update_below_its_bound, a_line_comes_behind_the_earlier_ones_of_its_writer,
-    all_memtables_want_as_many_updates_but_for_the_first,
 };
 pub use writing::write_plan;

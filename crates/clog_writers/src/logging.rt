@@ -2,22 +2,8 @@
 //! commit in threads, each seat has the log synced at the end, and the path is closed. In batch
 //! mode a marker stands between each two entries of one writer that are lasting, whatever was
 //! refused.
-ghost use Rattle.std.specs.Prelude.{
-  ◌≡◌,
-  ◌<◌,
-  ◌≤◌,
-  ◌^◌,
-  ℕ,
-  List,
-  [],
-  None,
-  Some,
-  IfErr,
-  IfOk,
-  IsSome,
-  is_some,
-  vec_capacity,
-};
+ghost use Rattle.std.specs.Prelude.{◌≡◌, ◌<◌, ◌≤◌, ◌^◌, ℕ, List, [], None, Some, IfErr, IfOk};
+ghost use Rattle.std.specs.Prelude.{IsSome, is_some, vec_capacity};
 ghost use Rattle.clog_spec.specs.Sizes.{most_tables};
 ghost use Rattle.clog_mutation.specs.declared.mutation.Mutation.{Mutation};
 ghost use Rattle.clog_shares.specs.Crews.{AreDealt, IsOpenFor};
@@ -81,6 +67,7 @@ fn run_crew<R: Threads + Wait + Sync, K: Keeper + Send + Drop, G: Gate + Sync, C
     requires mode { path.mode ≡ syncing.mode }
     requires tables { sizes.tables ≡ most_tables }
     requires dealt { (mutations : List Mutation) × AreDealt sizes flush_at mutations workers.items }
+    requires some { (most : ℕ) → flush_at ≡ Some most → 1 ≤ most }
     requires room { sizes.writers ≤ vec_capacity room }
     requires void { room.items ≡ [] }
     ensures ends { (base : ℕ) (before : Holding) → IsOpenFor sizes flush_at base path.table.size
@@ -109,10 +96,10 @@ fn run_crew<R: Threads + Wait + Sync, K: Keeper + Send + Drop, G: Gate + Sync, C
 
 /// Logs the lines that were dealt out to workers, over a keeper that was just opened. There is room
 /// for a seat of each. With `flush_at` each worker flushes a table whenever it has logged so many
-/// updates of it since its last flush; else the keeper does nothing beside its log, whatever is
-/// refused. The gate is told how far each commit is; in periodic mode the clock is asked behind
-/// each one. The first fault of a worker ends the run: each other one stops behind its commit in
-/// hand.
+/// updates of it since its last flush, at least one; else the keeper does nothing beside its log,
+/// whatever is refused. The gate is told how far each commit is; in periodic mode the clock is
+/// asked behind each one. The first fault of a worker ends the run: each other one stops behind its
+/// commit in hand.
 pub fn log_shares<
     R: Threads + Wait + Sync,
     K: Keeper + Send + Drop,
@@ -135,6 +122,7 @@ pub fn log_shares<
     requires base { base < 2 ^ 62 }
     requires tables { sizes.tables ≡ most_tables }
     requires dealt { (mutations : List Mutation) × AreDealt sizes flush_at mutations workers.items }
+    requires some { (most : ℕ) → flush_at ≡ Some most → 1 ≤ most }
     requires room { sizes.writers ≤ vec_capacity room }
     requires void { room.items ≡ [] }
     ensures ends { EndsShares sizes flush_at base (K.holds keeper) (K.holds result.0) workers.items

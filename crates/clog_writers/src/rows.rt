@@ -1,18 +1,10 @@
 //! Worked rows: of three lines that two writers log, which histories a crash may leave; what a
-//! flush leaves of a line's updates; which lines have updates for all memtables of a table.
-ghost use Rattle.std.specs.Prelude.{◌≡◌, ℕ, List, [], ◌∷◌, Option, None, Some, replicate, reverse};
-ghost use Rattle.clog_crash.specs.Worked.{the_mutation};
-ghost use Rattle.clog_mutation.specs.declared.mutation.Mutation.{Mutation};
+//! flush leaves of a line's updates.
+ghost use Rattle.std.specs.Prelude.{◌≡◌, [], ◌∷◌, reverse};
 ghost use Rattle.clog_closing.specs.Written.{HoldsFirsts};
-ghost use Rattle.clog_writers.specs.Logged.{HasManyUpdates};
 ghost use Rattle.clog_shares.specs.Tallied.{IsTallied};
-ghost use Rattle.clog_writers.specs.Worked.{
-  all_three,
-  by_another,
-  second_alone,
-  third_early,
-  three_lines,
-};
+ghost use Rattle.clog_writers.specs.Worked.{all_three, by_another, second_alone, third_early};
+ghost use Rattle.clog_writers.specs.Worked.{three_lines};
 ghost use Rattle.clog_writers.specs.WorkedTally.{flushed_one, logged_one, the_note};
 ghost use Rattle.path_flush.specs.OwnWrites.{writes_of};
 
@@ -37,17 +29,4 @@ pub fn a_flush_leaves_no_update_below_its_bound()
     ensures more { IsTallied 1 0 0 2 (the_note ∷ []) logged_one → ⊥ }
     ensures short { IsTallied 1 0 0 0 (the_note ∷ []) (flushed_one 59) → ⊥ }
     ensures unpaid { IsTallied 2 0 0 0 (the_note ∷ []) (flushed_one 60) → ⊥ }
-{}
-
-/// Each line has one update of table 0. Where writers flush at one, 255 lines have updates for all
-/// memtables of a table, and 254 have not, nor have 255 where writers flush at two. No number of
-/// memtables but 256 is all of them, and where writers do not flush no lines have so many updates.
-pub fn all_memtables_want_as_many_updates_but_for_the_first()
-    ensures enough { HasManyUpdates (Some 1) 256 (replicate 255 the_mutation) }
-    ensures few { HasManyUpdates (Some 1) 256 (replicate 254 the_mutation) → ⊥ }
-    ensures later { HasManyUpdates (Some 2) 256 (replicate 255 the_mutation) → ⊥ }
-    ensures made { (flush : Option ℕ) (made : ℕ) (mutations : List Mutation)
-        → HasManyUpdates flush made mutations → made ≡ 256 }
-    ensures unflushed { (made : ℕ) (mutations : List Mutation)
-        → HasManyUpdates None made mutations → ⊥ }
 {}

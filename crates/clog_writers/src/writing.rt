@@ -1,25 +1,7 @@
 //! The lines of a plan are logged by writers over a store that was just opened, which gives its
 //! disk back.
-ghost use Rattle.std.specs.Prelude.{
-  ◌≡◌,
-  ◌+◌,
-  ◌-◌,
-  ◌*◌,
-  ◌<◌,
-  ◌≤◌,
-  ◌^◌,
-  ℕ,
-  List,
-  None,
-  Some,
-  false,
-  is_some,
-  length,
-  Err,
-  Ok,
-  option_map,
-  IfOk,
-};
+ghost use Rattle.std.specs.Prelude.{◌≡◌, ◌+◌, ◌-◌, ◌*◌, ◌<◌, ◌≤◌, ◌^◌, ℕ, List, None, Some, false};
+ghost use Rattle.std.specs.Prelude.{is_some, length, Err, Ok, option_map, IfOk};
 ghost use Rattle.clog_spec.specs.Sizes.{most_tables};
 ghost use Rattle.clog_disk.specs.declared.change.Change.{Change};
 ghost use Rattle.clog_disk.specs.Files.{Files, SameTold, bytes_at};
@@ -29,21 +11,11 @@ ghost use Rattle.clog_mutation.specs.declared.mutation.Mutation.{Mutation as Mut
 ghost use Rattle.clog_words.specs.declared.request.ApplyOptions.{ApplyOptions};
 ghost use Rattle.clog_segments.specs.StoreFailed.{AllStay};
 ghost use Rattle.clog_segments.specs.StoreState.{store_over};
-ghost use Rattle.clog_shares.specs.declared.fault.WriteFault.TheVariants.{
-  Rows,
-  Spent,
-  Stopped,
-};
-ghost use Rattle.clog_writers.specs.Logged.{IsLack};
-ghost use Rattle.path_flush.specs.declared.switch_answer.Row.{Row as RowOf};
+ghost use Rattle.clog_shares.specs.declared.fault.WriteFault.TheVariants.{Spent, Stopped};
 ghost use Rattle.clog_writers.specs.Left.{LeavesShares, WritesShares, least_of};
 ghost use Rattle.clog_shares.specs.Planned.{IsPlanFor};
-ghost use Rattle.clog_writers.specs.Written.{
-  HasReceipts,
-  HasShareCause,
-  AsksFor,
-  TellsWrittenShares,
-};
+ghost use Rattle.clog_writers.specs.Written.{HasReceipts, HasShareCause, AsksFor};
+ghost use Rattle.clog_writers.specs.Written.{TellsWrittenShares};
 
 use crate::draining::settle_asked;
 use crate::logging::log_shares;
@@ -72,8 +44,6 @@ fn ended(
     ensures ok { IfOk result (λ r. (r ≡ receipts) × (fault ≡ None) × (Rose at_open now → ⊥)) }
     ensures cause { HasShareCause at_open now result }
     ensures spent { result ≡ Err Spent → fault ≡ Some Spent }
-    ensures rows { (row : RowOf) (made : ℕ) → result ≡ Err (Rows row made)
-        → fault ≡ Some (Rows row made) }
     ensures done { fault ≡ None → now ≡ at_open → now < 2 ^ 64 - 1 → result ≡ Ok receipts }
 {
     if now != at_open || now == u64::MAX {
@@ -125,9 +95,6 @@ fn disks_read_now<D: Disk>(_store: &Store<D>)
 /// `OutOfMemory`: memory was refused for the path, by a sync or a flush, or for the drain's table
 /// files;
 /// `Spent`: the log has no further segment, so it may have at most two segments for each line;
-/// `Rows`: no further group for a sync's barrier, so there are at least 65,535 lines, or, with
-/// `flush_at`, no further memtable of a table, of which there are 256, so the lines have at least
-/// 255 times so many updates of it; it tells how many there are;
 /// `Stopped`: the disk has failed, with its fault counts at the opening and now.
 pub fn write_plan<R: Threads + Wait + Sync, D: Disk + Send + Drop, G: Gate + Sync, C: Clock + Sync>(
     rt: &R,
@@ -146,6 +113,7 @@ pub fn write_plan<R: Threads + Wait + Sync, D: Disk + Send + Drop, G: Gate + Syn
     requires sizes { sizes ≡ store.notes.sizes }
     requires tables { sizes.tables ≡ most_tables }
     requires plan { (mutations : List MutationOf) × IsPlanFor sizes flush_at mutations plan }
+    requires some { (most : ℕ) → flush_at ≡ Some most → 1 ≤ most }
     ensures written { (mutations : List MutationOf) (options : ApplyOptions) (opened : Files)
         (made : List Change) → IsPlanFor sizes flush_at mutations plan
         → AsksFor options store.notes.sizes syncing.mode flush_at store.archives drain
@@ -162,9 +130,6 @@ pub fn write_plan<R: Threads + Wait + Sync, D: Disk + Send + Drop, G: Gate + Syn
         sizes.writers mutations (least_of result.1 mutations) }
     ensures spent { (mutations : List MutationOf) → IsPlanFor sizes flush_at mutations plan
         → result.1 ≡ Err Spent → sizes.ordinals ≤ 1 + (2 * length mutations - 1) }
-    ensures rows { (mutations : List MutationOf) → IsPlanFor sizes flush_at mutations plan
-        → (row : RowOf) (made : ℕ) → result.1 ≡ Err (Rows row made)
-        → IsLack flush_at row made mutations }
     ensures wrote { (mutations : List MutationOf) → IsPlanFor sizes flush_at mutations plan
         → WritesShares D.files D.changes store.notes.log.disk result.0 store.notes.base
         (is_some flush_at) store.archives drain sizes.writers mutations }

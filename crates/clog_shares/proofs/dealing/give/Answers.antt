@@ -10,5 +10,6 @@ returns g c = λ flush lines m dealt is prepared counted.
     let count = dealt.count in
     let added = c.in_ok-add.ensures in
     one_dealt c.args.sizes flush lines m c.args.line at c.args.workers.now c.args.write
-    c.args.counts c.add.new.worker c.index-workers-number.result dealt is prepared counted
+    c.args.counts c.add.new.worker c.index-workers-number.result dealt is (omega arith) prepared
+    counted
     (ap (λ (k : _). c.args.line % k) same) (omega (arith, same, some, count)) added.0 added.1

@@ -1,10 +1,12 @@
 use Rattle.std.proofs.Common.{ℕ, Some, length, refl, sym, ◌∙◌, subst, arith}
 use Rattle.std.proofs.lemmas.Option.{none-some}
+use Rattle.clog_spec.specs.Sizes.{most_tables}
 use Rattle.path_table.specs.Members.{view_of}
 use Rattle.write_path.proofs.Growing.{no_shorter}
 use Rattle.clog_shares.specs.declared.tally.UpdateTally.{UpdateTally}
 use Rattle.clog_shares.specs.Tallied.{ArePaid}
 use Rattle.clog_shares.specs.Tallies.{IsNotDue}
+use Rattle.clog_shares.proofs.Barriers.{one_changed}
 use Rattle.clog_shares.proofs.Keeping.{list_first, list_on}
 use Rattle.clog_shares.proofs.Tallying.{all_paid, paid_then, tallies_then}
 use Rattle.clog_shares.proofs.TriedFlushes.{one_tried}
@@ -17,6 +19,8 @@ loop-number-init g c = let t = c.args.path.now.table in record {
   tallies = λ all. all;
   idle = λ none. (refl, refl);
   tried = λ some t low. absurd (omega (arith, low));
+  issued = omega arith;
+  spends = λ some. omega arith;
 }
 
 pub flush_table-next-requires-clause-table : goal.flush_table-next-requires-clause-table
@@ -44,6 +48,13 @@ loop-number-preserved g c =
           done.keeps.2
           (no_shorter (view_of c.args.seat.member).trail (view_of l.seat.member).trail I.keeps.2)
           (I.tried some) (done.tried c.in-None.is (omega (arith, some, most)));
+      issued = let few = done.issued in let old = I.issued in omega (arith, few, old);
+      spends = λ some.
+          let most = I.most in
+          let old = I.spends some in
+          let one = done.spends c.in-None.is (omega (arith, some, most)) in
+          let all = one_changed l.number l.tally now.1 done.most done.others most_tables
+          c.loop-number-test.true in omega (arith, old, one, all);
     }
 
 pub returns-clause-tried : goal.returns-clause-tried
@@ -89,3 +100,23 @@ returns-clause-paid g c = λ all.
     let trail = (view_of l.seat.member).trail in
     subst (λ (k : ℕ). ArePaid (Some k) w trail) I.most
     (all_paid w l.tally trail (I.tallies all))
+
+pub flush_table-next-requires-clause-spends : goal.flush_table-next-requires-clause-spends
+flush_table-next-requires-clause-spends g c = let issued = c.loop-number.invariant.issued in
+    let low = c.requires.spends in let inside = c.loop-number-test.true in
+    omega (arith, issued, low, inside)
+
+pub returns-in-Some-clause-issued : goal.returns-in-Some-clause-issued
+returns-in-Some-clause-issued g c = let issued = c.loop-number.invariant.issued in
+    let few = c.flush_table-next.ensures.issued in let inside = c.loop-number-test.true in
+    omega (arith, issued, few, inside)
+
+pub returns-in-Some-clause-spends : goal.returns-in-Some-clause-spends
+returns-in-Some-clause-spends g c = λ none. absurd (none-some c.in-Some.fault (sym none))
+
+pub returns-clause-issued : goal.returns-clause-issued
+returns-clause-issued g c = let issued = c.loop-number.invariant.issued in
+    let end = c.loop-number.auto.number-end in omega (arith, issued, end)
+
+pub returns-clause-spends : goal.returns-clause-spends
+returns-clause-spends g c = λ none. c.loop-number.invariant.spends

@@ -1,20 +1,5 @@
-use Rattle.std.proofs.Common.{
-  ◌≡◌,
-  ◌+◌,
-  List,
-  [],
-  ◌∷◌,
-  ◌++◌,
-  inl,
-  inr,
-  length,
-  None,
-  if◌then◌else◌,
-  sym,
-  ap,
-  subst,
-  arith,
-}
+use Rattle.std.proofs.Common.{◌≡◌, ◌+◌, List, [], ◌∷◌, ◌++◌, inl, inr, length, None, if◌then◌else◌}
+use Rattle.std.proofs.Common.{sym, ap, subst, arith}
 use Rattle.std.specs.Prelude.{Contains}
 use Rattle.std.proofs.lemmas.List.{nil_from_length}
 use Rattle.std.proofs.lemmas.List.Elements.{Contains-append_cases}
@@ -25,13 +10,8 @@ use Rattle.path_table.specs.declared.trying.PathSeat.{PathSeat}
 use Rattle.clog_shares.specs.declared.worker.Worker.{Worker}
 use Rattle.clog_shares.specs.Sealing.{HasWaited}
 use Rattle.clog_shares.specs.Shares.{LacksMemoryAtMost}
-use Rattle.clog_shares.proofs.Gathering.{
-  Gathers,
-  all_gathered,
-  next_logged,
-  none_gathered,
-  one_gathered,
-}
+use Rattle.clog_shares.proofs.Gathering.{Gathers, all_gathered, next_logged, none_gathered}
+use Rattle.clog_shares.proofs.Gathering.{one_gathered}
 use Rattle.clog_shares.proofs.returning.end_all.Goals as goal
 
 pub loop-worker-init : goal.loop-worker-init
@@ -100,7 +80,7 @@ loop-worker-preserved g c =
           subst (λ (ss : List (PathSeat g.row.K.Denot)). Gathers id t.size flush ms rest ss now)
           (sym pushed)
           (one_gathered id t.size flush ms w rest xs l.first c.end_share-seat.result.1 now s before
-          (c.end_share-seat.ensures.ends flush (length xs) lines its) why.0 why.1
+          (c.end_share-seat.ensures.ends flush (length xs) lines its) why
           c.first_of-first.ensures.none c.first_of-first.ensures.one);
       waited = λ all.
           let before = I.waited all in (

@@ -4,11 +4,10 @@ use Rattle.path_core.specs.declared.note.EntryNote.{EntryNote}
 use Rattle.path_table.specs.declared.trying.PathSeat.{PathSeat}
 use Rattle.path_table.specs.Members.{view_of}
 use Rattle.clog_shares.specs.declared.fault.WriteFault.{WriteFault}
-use Rattle.clog_shares.specs.Crews.{KnowsWhy, MayLack}
+use Rattle.clog_shares.specs.Crews.{HasIssuedFew, KnowsWhy}
 use Rattle.clog_shares.specs.Shares.{logged_by}
 use Rattle.clog_shares.specs.Tallied.{HasFlushedAll, HasOpened}
 use Rattle.clog_shares.proofs.Committing.{earlier_on, logs_on, still_why, sync_why}
-use Rattle.clog_shares.proofs.Lacking.{by_sync, lacks_first}
 use Rattle.clog_shares.proofs.Opening.{sync_opens}
 use Rattle.clog_shares.proofs.Paying.{still_opened}
 use Rattle.clog_shares.proofs.Tallying.{flushed_on}
@@ -49,21 +48,16 @@ returns-clause-why g c = λ flush number lines logged.
     let same = same_Some logged.seat c.in-Some.seat (sym logged.has ∙ c.in-Some.is) in
     let answers = c.sync-seat.ensures.syncs.answers in
     let after = c.sync-seat.result.0 in
-    let fault = c.args.worker.fault in (
-      elim c.first_of.ensures.one [
-        | inl first ↦ subst (λ (f : Option WriteFault). KnowsWhy size f after) (sym first)
-            (still_why size fault c.in-Some.seat after
-            (record { newer = answers.steps.steps; is = answers.steps.trail })
-            (subst (λ (s : PathSeat g.row.K.Denot). KnowsWhy size fault s) same logged.why))
-        | inr other ↦ subst (λ (f : Option WriteFault). KnowsWhy size f after)
-            (sym c.refusal_of.ensures.is ∙ sym other)
-            (sync_why size c.in-Some.seat.member.number (view_of c.in-Some.seat.member) after
-            c.sync-seat.result.1 answers)
-      ],
-      lacks_first flush fault c.refusal_of.result c.first_of.result logged.rows
-          (subst (MayLack flush) (sym c.refusal_of.ensures.is)
-          (by_sync flush c.sync-seat.result.1)) c.first_of.ensures.one,
-    )
+    let fault = c.args.worker.fault in elim c.first_of.ensures.one [
+      | inl first ↦ subst (λ (f : Option WriteFault). KnowsWhy size f after) (sym first)
+          (still_why size fault c.in-Some.seat after
+          (record { newer = answers.steps.steps; is = answers.steps.trail })
+          (subst (λ (s : PathSeat g.row.K.Denot). KnowsWhy size fault s) same logged.why))
+      | inr other ↦ subst (λ (f : Option WriteFault). KnowsWhy size f after)
+          (sym c.refusal_of.ensures.is ∙ sym other)
+          (sync_why size c.in-Some.seat.member.number (view_of c.in-Some.seat.member) after
+          c.sync-seat.result.1 answers)
+    ]
 
 pub returns-clause-waited : goal.returns-clause-waited
 returns-clause-waited g c = λ waits.
@@ -75,3 +69,8 @@ returns-clause-waited g c = λ waits.
 
 pub returns-clause-cause : goal.returns-clause-cause
 returns-clause-cause g c = λ memory. (c.first_of.ensures.memory memory).0
+
+pub sync-seat-requires-clause-spends : goal.sync-seat-requires-clause-spends
+sync-seat-requires-clause-spends g c = let logged = c.requires.3 in
+    subst (λ (s : PathSeat g.row.K.Denot). HasIssuedFew s)
+    (same_Some logged.seat c.in-Some.seat (sym logged.has ∙ c.in-Some.is)) logged.issued

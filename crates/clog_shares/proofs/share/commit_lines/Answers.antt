@@ -1,41 +1,22 @@
-use Rattle.std.proofs.Common.{
-  ℕ,
-  List,
-  length,
-  reverse,
-  Option,
-  None,
-  sym,
-  ap,
-  ◌∙◌,
-  subst,
-  refl,
-  arith,
-}
+use Rattle.std.proofs.Common.{ℕ, List, length, reverse, Option, None, sym, ap, ◌∙◌, subst, refl}
+use Rattle.std.proofs.Common.{arith}
 use Rattle.std.specs.Prelude.{Contains}
 use Rattle.std.proofs.lemmas.List.{nil_from_length}
 use Rattle.std.proofs.lemmas.Option.{none-some}
 use Rattle.clog_base.proofs.Members.{nothing_there}
 use Rattle.path_core.specs.declared.note.EntryNote.{EntryNote}
 use Rattle.path_rule.specs.declared.view.OwnStep.{OwnStep}
+use Rattle.path_rule.specs.Issued.{issued_in}
 use Rattle.path_table.specs.Members.{view_of}
 use Rattle.write_path.specs.declared.prepared.Prepared.{Prepared}
 use Rattle.path_flush.specs.OwnWrites.{writes_of}
 use Rattle.clog_shares.specs.declared.fault.WriteFault.{WriteFault}
-use Rattle.clog_shares.specs.Crews.{KnowsWhy, MayLack}
+use Rattle.clog_shares.specs.Crews.{KnowsWhy}
 use Rattle.clog_shares.specs.Shares.{AddsWrite, ArePrepared, MayAddWrite, logged_by}
 use Rattle.clog_shares.specs.Tallied.{ArePaid, AreCountedFor, IsCountedFor}
 use Rattle.clog_shares.specs.Tallies.{MayTally, limit_of}
-use Rattle.clog_shares.proofs.Committing.{
-  GoesOn,
-  all_earlier,
-  begins,
-  ends,
-  logged,
-  next_of,
-  stopped_with,
-}
-use Rattle.clog_shares.proofs.Lacking.{no_fault}
+use Rattle.clog_shares.proofs.Committing.{GoesOn, all_earlier, begins, ends, logged, next_of}
+use Rattle.clog_shares.proofs.Committing.{stopped_with}
 use Rattle.clog_shares.proofs.NextLines.{GoesCounted, next_line, takes_next}
 use Rattle.clog_shares.proofs.Tallying.{may_paid, none_yet}
 use Rattle.clog_shares.proofs.Timing.{none_timed, one_timed}
@@ -67,6 +48,8 @@ loop-prepared-init g c =
         tallies = none_yet w c.new_tally-tally.result (view_of c.args.seat.member).trail
             c.requires.unused c.new_tally-tally.ensures.none;
       };
+      issued = let none_yet = ap issued_in c.requires.unused in let items = ap length gives.0 in
+          omega (arith, none_yet, items);
       left =
           let items = ap length c.into_iter-counts.ensures.rest in
           let long = c.into_iter-counts.ensures.len in
@@ -133,6 +116,8 @@ loop-prepared-preserved g c =
             (sym I.counted.limit) line.counted)
             (subst (λ (k : ℕ). MayTally k l.tally before) (sym I.same.1) I.counted.tallies));
       };
+      issued = let short = ap length steps.0 in let old = I.issued in let few = done.issued in
+          omega (arith, short, old, few);
       left = taken.1;
       count = let short = ap length steps.0 in omega (arith, short, steps.1, I.count);
     }
@@ -160,8 +145,8 @@ returns-in-Some-fault-clause-committed g c =
           steps (I.goes lines prepared));
       why = subst (λ (f : Option WriteFault). KnowsWhy r.path.now.table.size f next.result.0)
           c.in-Some-fault.is done.why;
-      rows = subst (MayLack r.flush_at) c.in-Some-fault.is
-          (subst (λ (f : Option ℕ). MayLack f next.result.3) I.counted.limit done.rows);
+      issued = let short = ap length steps in let old = I.issued in let few = done.issued in
+          let low = c.requires.few in omega (arith, short, old, few, low);
       waited = λ batch. done.waited batch (I.sealed batch);
       timed = λ period periodic none. absurd (none-some c.in-Some-fault.fault (sym none));
       paid =
@@ -208,7 +193,7 @@ returns-clause-committed g c =
           ends r.sizes w lines rest (logged_by l.seat.member) None (I.goes lines prepared)
           (λ same. nil_from_length rest (omega (arith, c.in-None.ensures.steps.0, I.count)));
       why = tt;
-      rows = no_fault r.flush_at;
+      issued = let old = I.issued in let low = c.requires.few in omega (arith, old, low);
       waited = λ batch. all_earlier trail (I.sealed batch);
       timed = λ period periodic none. (l.last_ms, I.timed period periodic);
       paid = subst (λ (f : Option ℕ). ArePaid f w trail) I.counted.limit
@@ -223,3 +208,18 @@ returns-clause-limit g c = c.loop-prepared.invariant.counted.limit
 
 pub returns-clause-tallies : goal.returns-clause-tallies
 returns-clause-tallies g c = λ none. c.loop-prepared.invariant.counted.tallies
+
+-- ---- few barriers are issued
+
+pub commit_next-next-requires-clause-spends : goal.commit_next-next-requires-clause-spends
+commit_next-next-requires-clause-spends g c =
+    let short = ap length c.in-Some.ensures.steps.0 in let old = c.loop-prepared.invariant.issued in
+    let low = c.requires.few in omega (arith, short, old, low)
+
+pub returns-in-Some-fault-clause-issued : goal.returns-in-Some-fault-clause-issued
+returns-in-Some-fault-clause-issued g c =
+    let short = ap length c.in-Some.ensures.steps.0 in let old = c.loop-prepared.invariant.issued in
+    let few = c.commit_next-next.ensures.issued in omega (arith, short, old, few)
+
+pub returns-clause-issued : goal.returns-clause-issued
+returns-clause-issued g c = let old = c.loop-prepared.invariant.issued in omega (arith, old)

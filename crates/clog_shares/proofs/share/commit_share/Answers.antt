@@ -1,9 +1,10 @@
-use Rattle.std.proofs.Common.{ℕ, refl, sym, ap, ◌∙◌, subst}
+use Rattle.std.proofs.Common.{ℕ, refl, sym, ap, ◌∙◌, subst, arith}
 use Rattle.std.proofs.lemmas.Option.{same_Some}
 use Rattle.path_table.specs.declared.trying.PathSeat.{PathSeat}
 use Rattle.clog_shares.specs.Sealing.{HasWaited}
 use Rattle.clog_shares.specs.Shares.{ArePrepared, LogsShare, logged_by}
 use Rattle.clog_shares.specs.Timed.{HasTimed}
+use Rattle.clog_shares.proofs.Committing.{as_many}
 use Rattle.clog_shares.proofs.Paying.{has_opened}
 use Rattle.clog_shares.proofs.share.commit_share.Goals as goal
 
@@ -33,7 +34,7 @@ returns-clause-logged g c = λ number lines ready.
           (w.ensures.committed.logs lines
           (subst (λ (v : _). ArePrepared r.sizes lines v.items)
           (sym c.replace-writes.ensures.value) ready.1.prepared)) w.ensures.committed.paid;
-      rows = w.ensures.committed.rows;
+      issued = w.ensures.committed.issued;
     }
 
 pub returns-clause-timed : goal.returns-clause-timed
@@ -49,3 +50,10 @@ returns-clause-waited g c = λ batch s is.
     let w = c.commit_writes-seat in
     subst (λ (t : PathSeat g.row.K.Denot). HasWaited t) (same_Some w.result.0 s is)
     (w.ensures.committed.waited batch)
+
+pub commit_writes-seat-requires-clause-few : goal.commit_writes-seat-requires-clause-few
+commit_writes-seat-requires-clause-few g c = let ready = c.requires.ready in
+    let many = as_many _ _ ready.1 (subst (λ (v : _). ArePrepared c.args.run.now.sizes ready.1
+    v.items)
+    (sym c.replace-writes.ensures.value) ready.2.1.prepared) in
+    let few = ready.2.2 in omega (arith, many, few)

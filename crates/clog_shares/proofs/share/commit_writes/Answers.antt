@@ -1,11 +1,10 @@
-use Rattle.std.proofs.Common.{◌≡◌, ℕ, true, List, Option, reverse, sym, ap, ◌∙◌, subst}
+use Rattle.std.proofs.Common.{◌≡◌, ℕ, true, List, Option, reverse, sym, ap, ◌∙◌, subst, arith}
 use Rattle.std.specs.Prelude.{IsSome}
 use Rattle.std.proofs.lemmas.Option.{none-some}
 use Rattle.path_core.specs.declared.note.EntryNote.{EntryNote}
 use Rattle.path_table.specs.Members.{view_of}
 use Rattle.clog_shares.specs.declared.fault.WriteFault.{WriteFault}
 use Rattle.clog_shares.specs.Committed.{HasCommitted}
-use Rattle.clog_shares.specs.Crews.{MayLack}
 use Rattle.clog_shares.specs.Shares.{logged_by}
 use Rattle.clog_shares.specs.Tallied.{ArePaid, HasFlushedAll}
 use Rattle.clog_shares.specs.Tallies.{MayTally}
@@ -42,8 +41,8 @@ returns-in-None-clause-committed g c =
           (ap (λ (l : List EntryNote). reverse l) now.keeps.1) (λ none. c.in-None.is)
           (old.logs ls prepared);
       why = now.why;
-      rows = subst (λ (f : Option ℕ). MayLack f c.flush_rest.result.1) lines.ensures.limit
-          now.rows;
+      issued = let few = c.requires.few in let written = lines.ensures.issued in
+          let issued = now.issued in omega (arith, few, written, issued);
       waited = λ batch. earlier_on then after now.keeps.1 now.keeps.2 (old.waited batch);
       timed = λ period periodic none.
           let timed = old.timed period periodic c.in-None.is in (
@@ -65,6 +64,14 @@ returns-in-None-clause-flushed g c = λ none.
     (c.flush_rest.ensures.flushed none
     (subst (λ (k : ℕ). MayTally k lines.result.1 (view_of lines.result.0.member).trail)
     (sym lines.ensures.committed.same.1) (lines.ensures.tallies c.in-None.is)))
+
+pub flush_rest-requires-clause-some : goal.flush_rest-requires-clause-some
+flush_rest-requires-clause-some g c = λ most is.
+    c.args.run.now.some most (sym c.commit_lines-seat.ensures.limit ∙ is)
+
+pub flush_rest-requires-clause-spends : goal.flush_rest-requires-clause-spends
+flush_rest-requires-clause-spends g c = let few = c.requires.few in
+    let written = c.commit_lines-seat.ensures.issued in omega (arith, few, written)
 
 -- ---- one was refused
 

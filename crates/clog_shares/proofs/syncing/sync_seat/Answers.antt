@@ -1,10 +1,9 @@
 use Rattle.std.proofs.Common.{sym, ◌∙◌, subst}
 use Rattle.path_table.specs.Members.{view_of}
-use Rattle.clog_shares.specs.Crews.{KnowsWhy, MayLack}
+use Rattle.clog_shares.specs.Crews.{KnowsWhy}
 use Rattle.clog_shares.specs.declared.fault.WriteFault.{WriteFault}
-use Rattle.std.specs.Prelude.{Option, None}
+use Rattle.std.specs.Prelude.{Option}
 use Rattle.clog_shares.proofs.Committing.{sync_why}
-use Rattle.clog_shares.proofs.Lacking.{by_sync}
 use Rattle.clog_shares.proofs.Opening.{sync_opens}
 use Rattle.clog_shares.proofs.Timing.{knows_synced, seals_last}
 use Rattle.clog_shares.proofs.syncing.sync_seat.Goals as goal
@@ -22,10 +21,6 @@ returns-clause-why g c =
     (sym c.refusal_of.ensures.is)
     (sync_why size c.args.seat.member.number (view_of c.args.seat.member) c.sync-seat.result.0
     c.sync-seat.result.1 c.sync-seat.ensures.syncs.answers)
-
-pub returns-clause-rows : goal.returns-clause-rows
-returns-clause-rows g c =
-    subst (MayLack None) (sym c.refusal_of.ensures.is) (by_sync None c.sync-seat.result.1)
 
 pub returns-clause-synced : goal.returns-clause-synced
 returns-clause-synced g c = λ none.

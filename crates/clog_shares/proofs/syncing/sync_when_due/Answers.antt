@@ -1,5 +1,4 @@
-use Rattle.std.proofs.Common.{[], None, inl, inr, refl}
-use Rattle.clog_shares.proofs.Lacking.{no_fault}
+use Rattle.std.proofs.Common.{[], inl, inr, refl}
 use Rattle.clog_shares.proofs.Timing.{none_due}
 use Rattle.clog_shares.proofs.syncing.sync_when_due.Goals as goal
 
@@ -22,10 +21,7 @@ returns-in-Some-clause-batch g c = λ batch.
 
 pub returns-in-None-clause-keeps : goal.returns-in-None-clause-keeps
 returns-in-None-clause-keeps g c =
-    ((c.requires, refl), refl, record { newer = []; is = refl })
-
-pub returns-in-None-clause-rows : goal.returns-in-None-clause-rows
-returns-in-None-clause-rows g c = no_fault None
+    ((c.requires.table, refl), refl, record { newer = []; is = refl })
 
 pub returns-in-None-clause-opened : goal.returns-in-None-clause-opened
 returns-in-None-clause-opened g c = λ t. refl

@@ -1,14 +1,13 @@
-use Rattle.std.proofs.Common.{◌≡◌, ℕ, true, Option, Some, inr, length, refl, sym, ◌∙◌, subst}
+use Rattle.std.proofs.Common.{◌≡◌, ℕ, true, Option, Some, inr, length, refl, sym, ◌∙◌, subst, arith}
 use Rattle.std.specs.Prelude.{IsSome}
 use Rattle.std.proofs.lemmas.Option.{none-some}
 use Rattle.path_table.specs.Members.{view_of}
 use Rattle.write_path.proofs.Growing.{no_shorter}
 use Rattle.clog_shares.specs.declared.fault.WriteFault.{WriteFault}
-use Rattle.clog_shares.specs.Crews.{KnowsWhy, MayLack}
+use Rattle.clog_shares.specs.Crews.{KnowsWhy}
 use Rattle.clog_shares.specs.Tallied.{ArePaid}
 use Rattle.clog_shares.specs.Tallies.{MayTally, limit_of}
 use Rattle.clog_shares.proofs.Committing.{adds_on, all_earlier, earlier_on, may_on, sealed_on}
-use Rattle.clog_shares.proofs.Lacking.{by_memory, lacks_any}
 use Rattle.clog_shares.proofs.Paying.{paid_with}
 use Rattle.clog_shares.proofs.Tallying.{may_paid, one_more}
 use Rattle.clog_shares.proofs.Timing.{times_on}
@@ -27,11 +26,6 @@ pub returns-then-is_set-clause-why : goal.returns-then-is_set-clause-why
 returns-then-is_set-clause-why g c =
     subst (λ (f : WriteFault). KnowsWhy c.args.run.now.path.now.table.size (Some f) c.args.seat)
     (sym c.stopped_for_another.ensures) tt
-
-pub returns-then-is_set-clause-rows : goal.returns-then-is_set-clause-rows
-returns-then-is_set-clause-rows g c =
-    subst (λ (f : WriteFault). MayLack (limit_of c.args.tally) (Some f))
-    (sym c.stopped_for_another.ensures) (by_memory (limit_of c.args.tally))
 
 pub returns-then-is_set-clause-waited : goal.returns-then-is_set-clause-waited
 returns-then-is_set-clause-waited g c = λ batch all.
@@ -72,11 +66,6 @@ returns-in-None-clause-may g c =
     (view_of c.commit_one-seat.result.0.member).trail
     (view_of c.flush_due-seat.result.0.member).trail c.flush_due-seat.ensures.keeps.1
     c.commit_one-seat.ensures.may
-
-pub returns-in-None-clause-rows : goal.returns-in-None-clause-rows
-returns-in-None-clause-rows g c =
-    subst (λ (f : Option ℕ). MayLack f c.flush_due-seat.result.2) c.tally_with-tally.ensures.limit
-    c.flush_due-seat.ensures.rows
 
 pub returns-in-None-clause-sealed : goal.returns-in-None-clause-sealed
 returns-in-None-clause-sealed g c = λ batch all none.
@@ -146,11 +135,6 @@ returns-in-None-clause-tried g c = λ none.
 
 -- ---- it was refused
 
-pub returns-in-Some-clause-rows : goal.returns-in-Some-clause-rows
-returns-in-Some-clause-rows g c =
-    lacks_any (limit_of c.args.tally) _
-    (subst (λ (f : Option WriteFault). MayLack _ f) c.in-Some.is c.commit_one-seat.ensures.rows)
-
 pub returns-in-Some-clause-tallies : goal.returns-in-Some-clause-tallies
 returns-in-Some-clause-tallies g c = λ none line prepared counted all.
     absurd (none-some c.in-Some.fault (sym none))
@@ -165,3 +149,9 @@ returns-in-Some-clause-paid g c = λ line prepared counted all.
 
 pub returns-in-Some-clause-tried : goal.returns-in-Some-clause-tried
 returns-in-Some-clause-tried g c = λ none. absurd (none-some c.in-Some.fault (sym none))
+
+-- ---- few barriers are issued
+
+pub flush_due-seat-requires-clause-spends : goal.flush_due-seat-requires-clause-spends
+flush_due-seat-requires-clause-spends g c = let few = c.commit_one-seat.ensures.issued in
+    let low = c.requires.spends in omega (arith, few, low)

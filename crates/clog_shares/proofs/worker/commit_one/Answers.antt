@@ -1,24 +1,13 @@
-use Rattle.std.proofs.Common.{◌/◌, ◌≤◌, Option, None, sym, ◌∙◌, subst, arith}
+use Rattle.std.proofs.Common.{◌/◌, ◌≤◌, Option, sym, ◌∙◌, subst, arith}
 use Rattle.std.proofs.lemmas.Option.{none-some}
 use Rattle.path_table.specs.Members.{view_of}
 use Rattle.sync_core.specs.declared.SyncCore.{SyncCore}
 use Rattle.write_path.specs.Receipts.{IsCommitted}
 use Rattle.clog_shares.specs.declared.fault.WriteFault.{WriteFault}
 use Rattle.write_path.proofs.Growing.{both}
-use Rattle.clog_shares.specs.Crews.{KnowsWhy, MayLack}
-use Rattle.clog_shares.proofs.Committing.{
-  adds_on,
-  all_earlier,
-  commit_grows,
-  commit_why,
-  may_add,
-  may_on,
-  one_sealed,
-  one_waits,
-  sealed_on,
-  where_logged,
-}
-use Rattle.clog_shares.proofs.Lacking.{by_commit}
+use Rattle.clog_shares.specs.Crews.{KnowsWhy}
+use Rattle.clog_shares.proofs.Committing.{adds_on, all_earlier, commit_grows, commit_why, may_add}
+use Rattle.clog_shares.proofs.Committing.{may_on, one_sealed, one_waits, sealed_on, where_logged}
 use Rattle.clog_shares.proofs.Opening.{commit_opens}
 use Rattle.clog_shares.proofs.Timing.{logs_last, times_write}
 use Rattle.clog_shares.proofs.worker.commit_one.Goals as goal
@@ -137,11 +126,6 @@ returns-in-Some-clause-opened g c =
     (view_of c.args.seat.member).trail c.args.prepared (view_of c.commit-seat.result.0.member)
     r.path.now.mode c.commit-seat.result.1 c.commit-seat.ensures.committed
 
-pub returns-in-Some-clause-rows : goal.returns-in-Some-clause-rows
-returns-in-Some-clause-rows g c =
-    subst (MayLack None) (sym c.refusal_in.ensures ∙ c.in-Some.is)
-    (by_commit None c.commit-seat.result.1)
-
 pub returns-in-Some-clause-timed : goal.returns-in-Some-clause-timed
 returns-in-Some-clause-timed g c = λ period periodic none.
     absurd (none-some c.in-Some.fault (sym none))
@@ -184,3 +168,13 @@ returns-in-Some-clause-waited g c = λ batch all.
     one_waits size w before c.args.prepared v c.commit-seat.result.1
     (subst (λ (m : SyncCore). IsCommitted m size w before c.args.prepared c.commit-seat.result.1 v)
     (r.mode ∙ batch) c.commit-seat.ensures.committed) all
+
+-- ---- few barriers are issued
+
+pub returns-in-None-clause-issued : goal.returns-in-None-clause-issued
+returns-in-None-clause-issued g c = let first = c.commit-seat.ensures.issued in
+    let more = c.sync_when_due.ensures.issued in omega (arith, first, more)
+
+pub sync_when_due-requires-clause-spends : goal.sync_when_due-requires-clause-spends
+sync_when_due-requires-clause-spends g c = let first = c.commit-seat.ensures.issued in
+    let low = c.requires.spends in omega (arith, first, low)

@@ -1,25 +1,5 @@
-use Rattle.std.proofs.Common.{
-  ◌≡◌,
-  ◌⊎◌,
-  ℕ,
-  ◌+◌,
-  ◌*◌,
-  ◌<◌,
-  ◌≤◌,
-  ⊎_elim,
-  inl,
-  inr,
-  List,
-  [],
-  ◌∷◌,
-  ◌++◌,
-  refl,
-  sym,
-  ap,
-  ◌∙◌,
-  subst,
-  arith,
-}
+use Rattle.std.proofs.Common.{◌≡◌, ◌⊎◌, ℕ, ◌+◌, ◌*◌, ◌<◌, ◌≤◌, ⊎_elim, inl, inr, List, [], ◌∷◌}
+use Rattle.std.proofs.Common.{◌++◌, refl, sym, ap, ◌∙◌, subst, arith}
 use Rattle.std.proofs.lemmas.List.Sums.{sum_by-cons}
 use Rattle.clog_base.proofs.Members.{here, only_one}
 use Rattle.clog_mutation.proofs.Decoding.{stored_within}
@@ -150,8 +130,8 @@ pub returns-clause-short : goal.returns-clause-short
 returns-clause-short g = left_over (flushed_one 59) (λ key H.
     ⊎_elim (λ x. absurd x) (λ a. ⊎_elim (λ f. let is = f.2 in omega (arith, is))
     (λ b. ⊎_elim (λ x. absurd x) (λ d. ⊎_elim (λ x. absurd x) (λ e. ⊎_elim (λ x. absurd x)
-    (λ h. ⊎_elim (λ x. absurd x) (λ i. ⊎_elim (λ x. absurd x) (λ x. absurd x) i) h) e) d) b) a)
-    H.final)
+    (λ h. ⊎_elim (λ x. absurd x) (λ i. ⊎_elim (λ x. absurd x) (λ j. ⊎_elim (λ x. absurd x)
+    (λ x. absurd x) j) i) h) e) d) b) a) H.final)
 
 pub returns-clause-more : goal.returns-clause-more
 returns-clause-more g = λ T.

@@ -15,21 +15,9 @@ use Rattle.write_path.specs.declared.commit.Receipt.{Receipt}
 use Rattle.clog_writers.specs.Left.{WritesShares, least_of}
 use Rattle.clog_writers.specs.Placed.{AreAtTheirLines}
 use Rattle.clog_writers.specs.Written.{HasReceipts, AsksFor, TellsWrittenShares}
-use Rattle.clog_writers.proofs.Brought.{
-  all_stand,
-  apart_on,
-  begun_on,
-  brings_only,
-  brings_shares,
-  first_disk,
-  firsts_on,
-  flushed_on,
-  in_log_on,
-  its_archives,
-  its_disk,
-  logs_on,
-  still_told,
-}
+use Rattle.clog_writers.proofs.Brought.{all_stand, apart_on, begun_on, brings_only, brings_shares}
+use Rattle.clog_writers.proofs.Brought.{first_disk, firsts_on, flushed_on, in_log_on, its_archives}
+use Rattle.clog_writers.proofs.Brought.{its_disk, logs_on, still_told}
 use Rattle.clog_writers.proofs.Crashing.{history, says}
 use Rattle.clog_writers.proofs.Ended.{written}
 use Rattle.clog_writers.proofs.LeftBy.{all_last, least_reached, left_by}
@@ -336,8 +324,3 @@ pub returns-clause-spent : goal.returns-clause-spent
 returns-clause-spent g c = λ ms plan is.
     c.log_shares-store.ensures.ends.spent ms plan.dealt
     (c.settle_asked-fault.ensures.spent (c.ended-outcome.ensures.spent is))
-
-pub returns-clause-rows : goal.returns-clause-rows
-returns-clause-rows g c = λ ms plan row made is.
-    c.log_shares-store.ensures.ends.rows ms plan.dealt row made
-    (c.settle_asked-fault.ensures.rows row made (c.ended-outcome.ensures.rows row made is))
