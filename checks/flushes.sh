@@ -1,5 +1,5 @@
 # Writers that flush: table files come while they write, segments go, and what a run that is killed
-# leaves. A table has 256 memtables in a run.
+# leaves. The four places of a table's memtables are used again and again.
 . "$top/checks/lib"
 
 # Where entries end by the archived segments, as a receipt has it behind the number of its line.
@@ -54,46 +54,31 @@ that 'and leaves a file more and no segment' test \
 # so many lines of table 0
 many() { yes "$line" | head -n "$1"; }
 fresh
-many 255 | expect 'as many flushes as memtables allow' 0 'applied 255' '' \
-    "$pinsilver" apply --flush-at 1
+many 300 | expect '300 flushes of one table' 0 'applied 300' '' "$pinsilver" apply --flush-at 1
 that 'a table file of each, and no segment' test "$(ls commitlog)" = \
-    "$(seq 255 | sed 's/.*/Table-0-&.tbl/' | sort)"
-fresh
-many 256 | expect 'one flush more' 10 'error 10: limit memtables 256' '' \
-    "$pinsilver" apply --flush-at 1
-that 'the segment of its line is left beside the files' test \
-    "$(ls commitlog | grep -c '^Table-0-'):$(ls commitlog | grep -c '^CommitLog-')" = 255:1
-expect 'no line is lost' 0 'segments 1
-tables 255
-entries 256
-updates 1
-skipped 255
+    "$(seq 300 | sed 's/.*/Table-0-&.tbl/' | sort)"
+expect 'no line is lost' 0 'segments 0
+tables 300
+entries 0
+updates 0
+skipped 0
 **' '' "$pinsilver" replay
-many 256 | expect 'a drain alone has no such limit' 0 'applied 256' '' "$pinsilver" apply --drain
 
-# Two writers with 256 lines each, over an older line. Each has a table of its own, so it finds no
-# table in the hands of the other one, when several lines would go with a flush: whichever comes
-# first to its last line wants a flush too many, and ends the run.
+# Two writers with 300 lines each, over an older line. Each has a table of its own, so it finds no
+# table in the hands of the other one, when several lines would go with a flush.
 keys_of() { sed -n 's/.*"key":"\([^"]*\)".*/\1/p'; }
 fresh
 put x 2 | "$pinsilver" apply >/dev/null
-awk 'BEGIN { for (i = 1; i <= 512; i++)
+awk 'BEGIN { for (i = 1; i <= 600; i++)
     printf "{\"key\":\"%03d\",\"updates\":[{\"table\":%d,\"column\":\"c\",\"ts\":1," \
         "\"value\":null}]}\n", i, i % 2 }' >input
-expect 'one flush more by one of two writers' 10 'error 10: limit memtables 256' '' \
+expect '300 flushes by each of two writers' 0 'applied 600' '' \
     "$pinsilver" apply --writers 2 --flush-at 1 <input
-"$pinsilver" replay | keys_of | sort >found
-awk '$1 == "x" { older++; next }
-    { w = $1 % 2; have[w]++; if ($1 > last[w]) last[w] = $1 }
-    END { print last[1] - (2 * have[1] - 1), last[0] - 2 * have[0],
-        (have[0] == 256 || have[1] == 256), older }' found >seen
-that 'the older line is there, of each writer the first, and all lines of the one' \
-    test "$(cat seen)" = '0 0 1 1'
-put y 3 | expect 'the next run goes on' 0 'applied 1' '' "$pinsilver" apply --drain
-that 'and leaves no segment' test "$(ls commitlog | grep -c '^CommitLog-')" -eq 0
-(cat found; echo y) >wanted
+that 'a table file of each line, and no segment' test "$(ls commitlog)" = \
+    "$( (echo Table-2-1.tbl; seq 300 | sed 's/.*/Table-0-&.tbl\nTable-1-&.tbl/') | sort)"
+(seq -f %03g 600; echo x) >wanted
 "$pinsilver" replay | keys_of | sort | cmp -s - wanted
-that 'and all of these lines' test $? -eq 0
+that 'the older line is there, and each of these' test $? -eq 0
 
 # The lines that a drill makes from seed 7, so many.
 made() {

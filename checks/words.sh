@@ -35,7 +35,8 @@ for words in 'apply --drain --drain' 'apply --segment-kib 3' 'apply --segment-ki
     '--dump apply' 'replay --workers 0' 'replay --workers 65' 'replay --workers= 4' \
     'replay --workers --ignore-errors' 'replay --dump' 'scan' 'scan CommitLog-7-5.log' \
     'scan CommitLog-6-05.log' 'scan Archive-CommitLog-6-5.log' \
-    'scan CommitLog-6-5.log CommitLog-6-6.log' 'drill 7' 'Apply'; do
+    'scan CommitLog-6-5.log CommitLog-6-6.log' 'drill 7' 'orders 0 3' 'orders 64 3' \
+    'orders 2 100001' 'Apply'; do
     apply_line expect "$words" 1 'error 1: usage' '' "$program" $words
 done
 that 'none of them makes a folder' test ! -e commitlog

@@ -1,29 +1,9 @@
 -- What `apply` answers, from what its steps answered.
-use Rattle.std.proofs.Common.{
-  ◌≡◌,
-  ℕ,
-  ◌+◌,
-  ◌≤◌,
-  List,
-  length,
-  Option,
-  Result,
-  Ok as ok,
-  Err as err,
-  inl,
-  inr,
-  sym,
-  subst,
-  arith,
-}
+use Rattle.std.proofs.Common.{◌≡◌, ℕ, ◌≤◌, List, Option, Result, Ok as ok, Err as err}
+use Rattle.std.proofs.Common.{inl, inr, sym, subst, arith}
 use Rattle.std.specs.Prelude.{false}
-use Rattle.clog_base.specs.declared.fault.Quantity.TheVariants.{
-  FileBytes,
-  Lines,
-  SegmentBytes,
-  Ids,
-  TableFiles,
-}
+use Rattle.clog_base.specs.declared.fault.Quantity.TheVariants.{FileBytes, Lines, SegmentBytes, Ids}
+use Rattle.clog_base.specs.declared.fault.Quantity.TheVariants.{TableFiles}
 use Rattle.clog_io.specs.Bytes.{TakesAll}
 use Rattle.clog_disk.specs.Files.{Files}
 use Rattle.clog_folder.specs.declared.fault.OpenFault.{OpenFault}
@@ -34,34 +14,15 @@ use Rattle.clog_words.specs.declared.request.ApplyOptions.{ApplyOptions}
 use Rattle.clog_applied.specs.Asked.{capacity_of}
 use Rattle.clog_segments.specs.Opened.{LeftAlone, OpenRefused}
 use Rattle.clog_engine.specs.declared.status.Status.{Status}
-use Rattle.clog_engine.specs.declared.status.Status.TheVariants.{
-  Ok,
-  Usage,
-  BadLine,
-  TooLarge,
-  ReadFault,
-  WriteFault,
-  DiskFault,
-  Damaged,
-  BadTable,
-  OutOfMemory,
-  Limit,
-  Groups,
-  Memtables,
-  Absent,
-}
+use Rattle.clog_engine.specs.declared.status.Status.TheVariants.{Ok, Usage, BadLine, TooLarge}
+use Rattle.clog_engine.specs.declared.status.Status.TheVariants.{ReadFault, WriteFault, DiskFault}
+use Rattle.clog_engine.specs.declared.status.Status.TheVariants.{Damaged, BadTable, OutOfMemory}
+use Rattle.clog_engine.specs.declared.status.Status.TheVariants.{Limit, Absent}
 use Rattle.clog_engine.specs.Apply.{Applies, ApplyRefuses, IsPartly, LeavesPart, ReadsGood}
 use Rattle.clog_engine.specs.Before.{FolderRefuses}
-use Rattle.clog_engine.specs.Input.{IsSized, MayWantGroups}
+use Rattle.clog_engine.specs.Input.{IsSized}
 use Rattle.clog_engine.specs.Planning.{FileRefused}
-use Rattle.clog_engine.specs.Limits.{group_limit}
-use Rattle.clog_engine.specs.Logged.{
-  AppliesLines,
-  AreLogged,
-  KeepsAll,
-  LeavesSome,
-  LinesRefuse,
-}
+use Rattle.clog_engine.specs.Logged.{AppliesLines, AreLogged, KeepsAll, LeavesSome, LinesRefuse}
 use Rattle.clog_engine.specs.Outside.{IsLeftAlone, Outside}
 use Rattle.clog_engine.specs.Refusal.{folder_status}
 
@@ -85,8 +46,6 @@ file_refuses n (Limit Lines most) o refused still = (refused.0, refused.1, still
 file_refuses n (Limit SegmentBytes most) o refused still = absurd refused
 file_refuses n (Limit Ids most) o refused still = absurd refused
 file_refuses n (Limit TableFiles most) o refused still = absurd refused
-file_refuses n (Groups most) o refused still = absurd refused
-file_refuses n (Memtables most) o refused still = absurd refused
 file_refuses n (Absent name) o refused still = absurd refused
 
 -- ---- the folder is refused
@@ -115,8 +74,6 @@ folder_refuses n ms (Limit Lines most) o refused left = absurd refused
 folder_refuses n ms (Limit SegmentBytes most) o refused left = (refused.0, refused.1, left)
 folder_refuses n ms (Limit Ids most) o refused left = (refused.0, refused.1, left)
 folder_refuses n ms (Limit TableFiles most) o refused left = (refused.0, refused.1, left)
-folder_refuses n ms (Groups most) o refused left = absurd refused
-folder_refuses n ms (Memtables most) o refused left = absurd refused
 folder_refuses n ms (Absent name) o refused left = absurd refused
 
 -- where nothing has changed
@@ -143,9 +100,6 @@ module _ (options : ApplyOptions) (o : Outside) (bytes : List ℕ) (ms : List Mu
   where
     good : ReadsGood options o
     good = (bytes, taken, record { mutations = ms; sized = sized })
-
-    many : group_limit ≤ 1 + length ms → MayWantGroups (capacity_of options) bytes
-    many all = record { mutations = ms; sized = sized; many = all }
 
     partly : AreLogged o options ms 0 → IsPartly options o
     partly logged = record {
@@ -178,12 +132,6 @@ module _ (options : ApplyOptions) (o : Outside) (bytes : List ℕ) (ms : List Mu
     refuses_file (Limit SegmentBytes most) refused = (refused.0, good, refused.1, refused.2)
     refuses_file (Limit Ids most) refused = (refused.0, good, refused.1, refused.2)
     refuses_file (Limit TableFiles most) refused = (refused.0, good, refused.1, refused.2)
-    refuses_file (Groups most) refused =
-        (refused.0, (bytes, taken, many refused.1), partly refused.2)
-    refuses_file (Memtables most) refused = (
-      (bytes, taken, record { mutations = ms; sized = sized; many = refused.0 }),
-      partly refused.1,
-    )
     refuses_file (Absent name) refused = absurd refused
 
     -- what comes of the lines comes of their file

@@ -1,74 +1,29 @@
 -- Why a good run ends well: each row of a refusal contradicts what is good.
-use Rattle.std.proofs.Common.{
-  ◌≡◌,
-  ℕ,
-  List,
-  length,
-  Option,
-  Some,
-  None,
-  Result,
-  Ok as ok,
-  Err as err,
-  inl,
-  inr,
-  refl,
-  sym,
-  ap,
-  subst,
-  ◌∙◌,
-  arith,
-  Global,
-}
+use Rattle.std.proofs.Common.{◌≡◌, ℕ, List, length, Option, Some, None, Result, Ok as ok}
+use Rattle.std.proofs.Common.{Err as err, inl, inr, refl, sym, ap, subst, ◌∙◌, arith, Global}
 use Rattle.std.specs.Prelude.{false, String, IfSome}
 use Rattle.std.specs.FinMap as finmap
-use Rattle.std.proofs.lemmas.Option.{none-some}
 use Rattle.clog_spec.specs.Names.{segment_name_of}
-use Rattle.clog_base.specs.declared.fault.Quantity.TheVariants.{
-  FileBytes,
-  Lines,
-  SegmentBytes,
-  Ids,
-  TableFiles,
-}
+use Rattle.clog_base.specs.declared.fault.Quantity.TheVariants.{FileBytes, Lines, SegmentBytes, Ids}
+use Rattle.clog_base.specs.declared.fault.Quantity.TheVariants.{TableFiles}
 use Rattle.clog_disk.specs.Files.{Files, Told}
 use Rattle.clog_engine.specs.declared.status.Status.{Status}
-use Rattle.clog_engine.specs.declared.status.Status.TheVariants.{
-  Ok,
-  Usage,
-  BadLine,
-  TooLarge,
-  ReadFault,
-  WriteFault,
-  DiskFault,
-  Damaged,
-  BadTable,
-  OutOfMemory,
-  Limit,
-  Groups,
-  Memtables,
-  Absent,
-}
+use Rattle.clog_engine.specs.declared.status.Status.TheVariants.{Ok, Usage, BadLine, TooLarge}
+use Rattle.clog_engine.specs.declared.status.Status.TheVariants.{ReadFault, WriteFault, DiskFault}
+use Rattle.clog_engine.specs.declared.status.Status.TheVariants.{Damaged, BadTable, OutOfMemory}
+use Rattle.clog_engine.specs.declared.status.Status.TheVariants.{Limit, Absent}
 use Rattle.clog_mutation.specs.declared.mutation.Mutation.{Mutation}
 use Rattle.clog_text.specs.Made.{made_lines}
 use Rattle.clog_words.specs.declared.built.Built.{Built}
-use Rattle.clog_words.specs.declared.built.Built.TheVariants.{Apply, Replay, Scan, Drill}
+use Rattle.clog_words.specs.declared.built.Built.TheVariants.{Apply, Replay, Scan, Drill, Orders}
 use Rattle.clog_words.specs.declared.request.ApplyOptions.{ApplyOptions}
 use Rattle.clog_words.specs.declared.request.ReplayOptions.{ReplayOptions}
 use Rattle.clog_words.specs.Given.{texts}
 use Rattle.clog_applied.specs.Asked.{capacity_of}
 use Rattle.clog_engine.specs.Apply.{ApplyRefuses}
 use Rattle.clog_engine.specs.Answering.{Answers, Does, DoesAsked, Prints, Reports}
-use Rattle.clog_engine.specs.Completes.{
-  Tells,
-  IsOpenable,
-  IsScannable,
-  IsReplayable,
-  IsFit,
-  IsQuiet,
-  EndsWell,
-  Completes,
-}
+use Rattle.clog_engine.specs.Completes.{Tells, IsOpenable, IsScannable, IsReplayable, IsFit}
+use Rattle.clog_engine.specs.Completes.{IsQuiet, EndsWell, Completes}
 use Rattle.clog_engine.specs.Input.{IsGood}
 use Rattle.clog_engine.specs.Outside.{Outside, Sinks}
 use Rattle.clog_engine.specs.Request.{Asks}
@@ -84,13 +39,8 @@ use Rattle.clog_engine.specs.Replaying.{ReplayRefused}
 use Rattle.clog_engine.specs.Scanning.{ReadRefused}
 use Rattle.clog_engine.proofs.Readable.{no_bad_table, no_damage, no_long_segment}
 use Rattle.clog_engine.proofs.WordsAsked.{one_asked}
-use Rattle.clog_engine.proofs.GoodInput.{
-  taken_good,
-  good_is_no_bad_line,
-  good_is_not_large,
-  good_has_few_lines,
-  good_is_short,
-}
+use Rattle.clog_engine.proofs.GoodInput.{taken_good, good_is_no_bad_line, good_is_not_large}
+use Rattle.clog_engine.proofs.GoodInput.{good_has_few_lines, good_is_short}
 
 -- ---- a folder that can be opened is not refused
 
@@ -103,7 +53,7 @@ told_openable (Some files) P fit other clash = clash files fit other
 -- a good mutation file and a folder that can be opened are not refused
 apply_completes : (options : ApplyOptions) (status : Status) (o : Outside) (s : Sinks)
     → Tells o.left (IsGood (capacity_of options)) → Told o.files IsOpenable → IsQuiet o s
-    → ApplyRefuses options status o → EndsWell (Apply options) status
+    → ApplyRefuses options status o → EndsWell status
 apply_completes options Ok o s good fit quiet refused = absurd refused
 apply_completes options Usage o s good fit quiet refused = absurd refused
 apply_completes options (BadLine number cause) o s good fit quiet refused =
@@ -137,10 +87,6 @@ apply_completes options (Limit Ids most) o s good fit quiet refused =
 apply_completes options (Limit TableFiles most) o s good fit quiet refused =
     absurd (told_openable o.files _ fit refused.2 (λ files can many.
     can.within.few many.late))
-apply_completes options (Groups most) o s good fit quiet refused = refused.0
-apply_completes options (Memtables most) o s good fit quiet refused =
-    let many = refused.0.2.many in
-    (many.0, λ none. none-some many.1.0 (sym none ∙ many.1.1))
 apply_completes options (Absent name) o s good fit quiet refused = absurd refused
 
 -- ---- a file that is there is not refused
@@ -165,7 +111,7 @@ short_is_short (Some files) name there long =
 scan_completes : (id : ℕ) (status : Status) (o : Outside) (s : Sinks) (name : List ℕ)
     → Told o.files (λ files. IsScannable files name) → IsQuiet o s
     → ReadRefused o.files o.disk_faults o.disk_faults_now name status
-    → EndsWell (Scan id) status
+    → EndsWell status
 scan_completes id Ok o s name there quiet refused = absurd refused
 scan_completes id Usage o s name there quiet refused = absurd refused
 scan_completes id (BadLine number cause) o s name there quiet refused = absurd refused
@@ -182,8 +128,6 @@ scan_completes id (Limit SegmentBytes most) o s name there quiet refused =
     absurd (short_is_short o.files name there refused.1)
 scan_completes id (Limit Ids most) o s name there quiet refused = absurd refused
 scan_completes id (Limit TableFiles most) o s name there quiet refused = absurd refused
-scan_completes id (Groups most) o s name there quiet refused = absurd refused
-scan_completes id (Memtables most) o s name there quiet refused = absurd refused
 scan_completes id (Absent other) o s name there quiet refused =
     absurd (there_is_there o.files name there refused.1)
 
@@ -192,7 +136,7 @@ scan_completes id (Absent other) o s name there quiet refused =
 replay_completes : (options : ReplayOptions) (status : Status) (o : Outside) (s : Sinks)
     → Told o.files (IsReplayable options.ignore_errors) → IsQuiet o s
     → ReplayRefused options.ignore_errors o.files o.disk_faults o.disk_faults_now status
-    → EndsWell (Replay options) status
+    → EndsWell status
 replay_completes options Ok o s fit quiet refused = absurd refused
 replay_completes options Usage o s fit quiet refused = absurd refused
 replay_completes options (BadLine number cause) o s fit quiet refused = absurd refused
@@ -211,8 +155,6 @@ replay_completes options (Limit SegmentBytes most) o s fit quiet refused =
     absurd (no_long_segment options.ignore_errors o.files fit refused.1)
 replay_completes options (Limit Ids most) o s fit quiet refused = absurd refused
 replay_completes options (Limit TableFiles most) o s fit quiet refused = absurd refused
-replay_completes options (Groups most) o s fit quiet refused = absurd refused
-replay_completes options (Memtables most) o s fit quiet refused = absurd refused
 replay_completes options (Absent name) o s fit quiet refused = absurd refused
 
 -- ---- nor is one that is drilled
@@ -242,7 +184,7 @@ module _ (lines : List Mutation) (o : Outside) (s : Sinks) (opens : Told o.files
       good_has_none files name fault can.within.readable.tables is)
 
   drill_completes : (seed count : ℕ) (status : Status) → DrillRefuses lines status o
-      → EndsWell (Drill seed count) status
+      → EndsWell status
   drill_completes seed count Ok refused = absurd refused
   drill_completes seed count Usage refused = absurd refused
   drill_completes seed count (BadLine number cause) refused = absurd refused
@@ -262,12 +204,10 @@ module _ (lines : List Mutation) (o : Outside) (s : Sinks) (opens : Told o.files
       let low = can.within.low great.id great.named in omega (arith, low, great.great)))
   drill_completes seed count (Limit TableFiles most) refused =
       absurd (told_openable o.files _ opens refused.1 (λ files can many. can.within.few many.late))
-  drill_completes seed count (Groups most) refused = refused.0
-  drill_completes seed count (Memtables most) refused = (refused.0.0, tt)
   drill_completes seed count (Absent name) refused = absurd refused
 
 does_complete : (request : Built) (o : Outside) (s : Sinks) (status : Status) → IsFit request o
-    → IsQuiet o s → Does (Some request) o (err status) → EndsWell request status
+    → IsQuiet o s → Does (Some request) o (err status) → EndsWell status
 does_complete (Apply options) o s status fit quiet done =
     apply_completes options status o s fit.0 fit.1 quiet done
 does_complete (Replay options) o s status fit quiet done =
@@ -276,32 +216,32 @@ does_complete (Scan id) o s status fit quiet done =
     scan_completes id status o s (segment_name_of 6 id) fit quiet done.0
 does_complete (Drill seed count) o s status fit quiet done =
     drill_completes (made_lines seed count) o s fit quiet seed count status done.0
+does_complete (Orders readers rounds) o s status fit quiet done =
+    subst EndsWell (sym done.0) tt
 
 -- a report goes out, where the sink does not fail
-reports_complete : (request : Built) (report : List ℕ) (status : Status) (o : Outside)
-    (s : Sinks) → IsQuiet o s → Reports report status s → EndsWell request status
-reports_complete request report Ok o s quiet reports = tt
-reports_complete request report Usage o s quiet reports = absurd reports
-reports_complete request report (BadLine number cause) o s quiet reports = absurd reports
-reports_complete request report (TooLarge number size most) o s quiet reports = absurd reports
-reports_complete request report ReadFault o s quiet reports = absurd reports
-reports_complete request report WriteFault o s quiet reports = absurd (quiet.sink reports.cause)
-reports_complete request report DiskFault o s quiet reports = absurd reports
-reports_complete request report (Damaged name at cause) o s quiet reports = absurd reports
-reports_complete request report (BadTable name fault) o s quiet reports = absurd reports
-reports_complete request report OutOfMemory o s quiet reports = absurd reports
-reports_complete request report (Limit what most) o s quiet reports = absurd reports
-reports_complete request report (Groups most) o s quiet reports = absurd reports
-reports_complete request report (Memtables most) o s quiet reports = absurd reports
-reports_complete request report (Absent name) o s quiet reports = absurd reports
+reports_complete : (report : List ℕ) (status : Status) (o : Outside)
+    (s : Sinks) → IsQuiet o s → Reports report status s → EndsWell status
+reports_complete report Ok o s quiet reports = tt
+reports_complete report Usage o s quiet reports = absurd reports
+reports_complete report (BadLine number cause) o s quiet reports = absurd reports
+reports_complete report (TooLarge number size most) o s quiet reports = absurd reports
+reports_complete report ReadFault o s quiet reports = absurd reports
+reports_complete report WriteFault o s quiet reports = absurd (quiet.sink reports.cause)
+reports_complete report DiskFault o s quiet reports = absurd reports
+reports_complete report (Damaged name at cause) o s quiet reports = absurd reports
+reports_complete report (BadTable name fault) o s quiet reports = absurd reports
+reports_complete report OutOfMemory o s quiet reports = absurd reports
+reports_complete report (Limit what most) o s quiet reports = absurd reports
+reports_complete report (Absent name) o s quiet reports = absurd reports
 
 outcome_completes : (request : Built) (o : Outside) (s : Sinks) (status : Status)
     (outcome : Result (List ℕ) Status) → IsFit request o → IsQuiet o s
-    → Does (Some request) o outcome → Prints outcome status s → EndsWell request status
+    → Does (Some request) o outcome → Prints outcome status s → EndsWell status
 outcome_completes request o s status (ok report) fit quiet done prints =
-    reports_complete request report status o s quiet prints
+    reports_complete report status o s quiet prints
 outcome_completes request o s status (err refusal) fit quiet done prints =
-    subst (EndsWell request) (sym prints.0)
+    subst EndsWell (sym prints.0)
     (does_complete request o s refusal fit quiet done)
 
 request_completes : (request : Option Built) (words : List (String Global)) (o : Outside)
@@ -311,16 +251,15 @@ request_completes None words o s status outcome asks done prints request says fi
     absurd (asks request says)
 request_completes (Some other) words o s status outcome asks done prints request says fit quiet =
     let same = one_asked (texts words) other request asks says in
-    subst (λ (r : Built). EndsWell r status) same
-    (outcome_completes other o s status outcome
-    (subst (λ (r : Built). IsFit r o) (sym same) fit) quiet done prints)
+    outcome_completes other o s status outcome
+    (subst (λ (r : Built). IsFit r o) (sym same) fit) quiet done prints
 
-no_words_complete : (request : Built) (o : Outside) (s : Sinks) (status : Status)
+no_words_complete : (o : Outside) (s : Sinks) (status : Status)
     (outcome : Result (List ℕ) Status) → outcome ≡ err OutOfMemory → Prints outcome status s
-    → EndsWell request status
-no_words_complete request o s status outcome is prints =
+    → EndsWell status
+no_words_complete o s status outcome is prints =
     let told = subst (λ (r : Result (List ℕ) Status). Prints r status s) is prints in
-    subst (EndsWell request) (sym told.0) tt
+    subst EndsWell (sym told.0) tt
 
 asked_completes : (words : List (String Global)) (o : Outside) (s : Sinks) (status : Status)
     (outcome : Result (List ℕ) Status) → DoesAsked words o outcome → Prints outcome status s
@@ -328,7 +267,7 @@ asked_completes : (words : List (String Global)) (o : Outside) (s : Sinks) (stat
 asked_completes words o s status outcome (inl done) prints =
     request_completes done.request words o s status outcome done.asked done.done prints
 asked_completes words o s status outcome (inr none) prints =
-    λ request says fit quiet. no_words_complete request o s status outcome none.0 prints
+    λ request says fit quiet. no_words_complete o s status outcome none.0 prints
 
 pub completes : (words : List (String Global)) (o : Outside) (s : Sinks) (status : Status)
     → Answers words o s status → Completes words o s status

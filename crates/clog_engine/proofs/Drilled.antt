@@ -1,30 +1,9 @@
 -- What a drill answers, from what its steps answered.
-use Rattle.std.proofs.Common.{
-  ◌≡◌,
-  ℕ,
-  List,
-  Option,
-  Some,
-  None,
-  Result,
-  Ok as ok,
-  Err as err,
-  inl,
-  inr,
-  false,
-  refl,
-  sym,
-  subst,
-  arith,
-}
+use Rattle.std.proofs.Common.{◌≡◌, ℕ, List, Option, Some, None, Result, Ok as ok, Err as err, inl}
+use Rattle.std.proofs.Common.{inr, false, refl, sym, subst, arith}
 use Rattle.std.specs.Prelude.{is_some}
-use Rattle.clog_base.specs.declared.fault.Quantity.TheVariants.{
-  FileBytes,
-  Lines,
-  SegmentBytes,
-  Ids,
-  TableFiles,
-}
+use Rattle.clog_base.specs.declared.fault.Quantity.TheVariants.{FileBytes, Lines, SegmentBytes, Ids}
+use Rattle.clog_base.specs.declared.fault.Quantity.TheVariants.{TableFiles}
 use Rattle.clog_disk.specs.Files.{Files, Told}
 use Rattle.std.specs.List.{AllByRecursion}
 use Rattle.clog_mutation.specs.declared.mutation.Mutation.{Mutation}
@@ -34,29 +13,12 @@ use Rattle.clog_folder.specs.Folder.{HasDamage, HasLongSegment}
 use Rattle.clog_shares.specs.Fitting.{HasFittingEntry}
 use Rattle.clog_engine.specs.Completes.{IsReplayable}
 use Rattle.clog_engine.specs.declared.status.Status.{Status}
-use Rattle.clog_engine.specs.declared.status.Status.TheVariants.{
-  Ok,
-  Usage,
-  BadLine,
-  TooLarge,
-  ReadFault,
-  WriteFault,
-  DiskFault,
-  Damaged,
-  BadTable,
-  OutOfMemory,
-  Limit,
-  Groups,
-  Memtables,
-  Absent,
-}
-use Rattle.clog_engine.specs.Drill.{
-  DrillRefuses,
-  DrillsLines,
-  IsRefusedFor,
-  TellsFolder,
-  drill_options,
-}
+use Rattle.clog_engine.specs.declared.status.Status.TheVariants.{Ok, Usage, BadLine, TooLarge}
+use Rattle.clog_engine.specs.declared.status.Status.TheVariants.{ReadFault, WriteFault, DiskFault}
+use Rattle.clog_engine.specs.declared.status.Status.TheVariants.{Damaged, BadTable, OutOfMemory}
+use Rattle.clog_engine.specs.declared.status.Status.TheVariants.{Limit, Absent}
+use Rattle.clog_engine.specs.Drill.{DrillRefuses, DrillsLines, IsRefusedFor, TellsFolder}
+use Rattle.clog_engine.specs.Drill.{drill_options}
 use Rattle.clog_engine.specs.Planning.{LinesRefused}
 use Rattle.clog_engine.specs.Logged.{AppliesLines, AreApplied, LinesRefuse}
 use Rattle.clog_engine.specs.Outside.{Outside}
@@ -64,12 +26,7 @@ use Rattle.clog_engine.specs.Quiet.{IsRefusedBefore, TellsEach}
 use Rattle.clog_engine.specs.Replaying.{ReplayRefused}
 use Rattle.clog_engine.proofs.GoodInput.{none_is_large}
 use Rattle.clog_engine.proofs.Quiet.{replayed_at}
-use Rattle.clog_engine.proofs.Readable.{
-  no_bad_table,
-  no_damage,
-  no_long_segment,
-  reads_behind,
-}
+use Rattle.clog_engine.proofs.Readable.{no_bad_table, no_damage, no_long_segment, reads_behind}
 
 -- ---- the lines are refused
 
@@ -90,8 +47,6 @@ refuses_drill ms (Limit Lines most) o refused = absurd refused
 refuses_drill ms (Limit SegmentBytes most) o refused = (refused.0, inl (refused.1, refused.2))
 refuses_drill ms (Limit Ids most) o refused = refused
 refuses_drill ms (Limit TableFiles most) o refused = refused
-refuses_drill ms (Groups most) o refused = refused
-refuses_drill ms (Memtables most) o refused = refused
 refuses_drill ms (Absent name) o refused = absurd refused
 
 -- ---- the folder is not read behind them
@@ -137,8 +92,6 @@ module _ (ms : List Mutation) (o : Outside) (text : List ℕ)
   )
   refused_behind (Limit Ids most) refused = absurd refused
   refused_behind (Limit TableFiles most) refused = absurd refused
-  refused_behind (Groups most) refused = absurd refused
-  refused_behind (Memtables most) refused = absurd refused
   refused_behind (Absent name) refused = absurd refused
 
   told_drill : (result : Result (List ℕ) Status)
@@ -194,8 +147,6 @@ memory_alone ms capacity (Damaged name at cause) fit refused = absurd refused
 memory_alone ms capacity (BadTable name fault) fit refused = absurd refused
 memory_alone ms capacity OutOfMemory fit refused = refl
 memory_alone ms capacity (Limit what most) fit refused = absurd refused
-memory_alone ms capacity (Groups most) fit refused = absurd refused
-memory_alone ms capacity (Memtables most) fit refused = absurd refused
 memory_alone ms capacity (Absent name) fit refused = absurd refused
 
 -- a folder that is not told was called

@@ -1,41 +1,21 @@
 -- Faults of the disk are told, and what is refused before the listing calls no disk.
 use Rattle.std.proofs.Common.{◌≡◌, ℕ, List, Option, Result, Ok, Err, sym, subst, ◌∙◌}
 use Rattle.std.specs.Prelude.{Bool, ◌≢◌}
-use Rattle.clog_base.specs.declared.fault.Quantity.TheVariants.{
-  FileBytes,
-  Lines,
-  SegmentBytes,
-  Ids,
-  TableFiles,
-}
+use Rattle.clog_base.specs.declared.fault.Quantity.TheVariants.{FileBytes, Lines, SegmentBytes, Ids}
+use Rattle.clog_base.specs.declared.fault.Quantity.TheVariants.{TableFiles}
 use Rattle.clog_disk.specs.Files.{Files}
 use Rattle.clog_disk.specs.declared.disk.DiskFault.{DiskFault as Fault}
-use Rattle.clog_disk.specs.declared.disk.DiskFault.TheVariants.{
-  Failed,
-  NoSuchFile,
-  OutOfMemory as NoMemory,
-}
+use Rattle.clog_disk.specs.declared.disk.DiskFault.TheVariants.{Failed, NoSuchFile}
+use Rattle.clog_disk.specs.declared.disk.DiskFault.TheVariants.{OutOfMemory as NoMemory}
 use Rattle.clog_folder.specs.declared.fault.OpenFault.{OpenFault}
 use Rattle.clog_folder.specs.declared.fault.OpenFault.TheVariants as folder
 use Rattle.clog_folder.specs.declared.fault.OpenFault.TheVariants.{Disk}
 use Rattle.clog_folder.specs.Passing.{TellsFault}
 use Rattle.clog_engine.specs.declared.status.Status.{Status}
-use Rattle.clog_engine.specs.declared.status.Status.TheVariants.{
-  Ok as Good,
-  Usage,
-  BadLine,
-  TooLarge,
-  ReadFault,
-  WriteFault,
-  DiskFault,
-  Damaged,
-  BadTable,
-  OutOfMemory,
-  Limit,
-  Groups,
-  Memtables,
-  Absent,
-}
+use Rattle.clog_engine.specs.declared.status.Status.TheVariants.{Ok as Good, Usage, BadLine}
+use Rattle.clog_engine.specs.declared.status.Status.TheVariants.{TooLarge, ReadFault, WriteFault}
+use Rattle.clog_engine.specs.declared.status.Status.TheVariants.{DiskFault, Damaged, BadTable}
+use Rattle.clog_engine.specs.declared.status.Status.TheVariants.{OutOfMemory, Limit, Absent}
 use Rattle.clog_text.specs.declared.refusal.BadLine.{BadLine as BadLineCause}
 use Rattle.clog_engine.specs.Refusal.{folder_status, status_of}
 use Rattle.clog_engine.specs.Before.{FolderRefuses}
@@ -101,8 +81,6 @@ reports_call report (Damaged name at cause) s printed before = printed
 reports_call report (BadTable name fault) s printed before = printed
 reports_call report OutOfMemory s printed before = printed
 reports_call report (Limit what most) s printed before = printed
-reports_call report (Groups most) s printed before = printed
-reports_call report (Memtables most) s printed before = printed
 reports_call report (Absent name) s printed before = printed
 
 pub printed_before : (outcome : Result (List ℕ) Status) (status : Status) (s : Sinks)
@@ -151,8 +129,6 @@ refused_behind refuses words line large source bytes lines (Limit SegmentBytes m
 refused_behind refuses words line large source bytes lines (Limit Ids most) refused before = before
 refused_behind refuses words line large source bytes lines (Limit TableFiles most) refused before =
     before
-refused_behind refuses words line large source bytes lines (Groups most) refused before = before
-refused_behind refuses words line large source bytes lines (Memtables most) refused before = before
 refused_behind refuses words line large source bytes lines (Absent name) refused before = before
 
 -- nor is one that comes of looking at the folder

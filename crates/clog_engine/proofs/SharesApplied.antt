@@ -1,27 +1,6 @@
 -- A run whose lines writers were to log: what it answers, from what its steps answered.
-use Rattle.std.proofs.Common.{
-  ◌≡◌,
-  ℕ,
-  List,
-  [],
-  ◌∷◌,
-  ◌++◌,
-  length,
-  map,
-  Bool,
-  true,
-  false,
-  Result,
-  Ok as ok,
-  Err as err,
-  inr,
-  refl,
-  sym,
-  ap,
-  subst,
-  ◌∙◌,
-  append-nil,
-}
+use Rattle.std.proofs.Common.{◌≡◌, ℕ, List, [], ◌∷◌, ◌++◌, length, map, Bool, true, false, Result}
+use Rattle.std.proofs.Common.{Ok as ok, Err as err, inr, refl, sym, ap, subst, ◌∙◌, append-nil}
 use Rattle.std.specs.Prelude.{Contains, IfOk, IfSome}
 use Rattle.std.specs.Global.{Vec}
 use Rattle.std.specs.List.{flat_map}
@@ -46,28 +25,13 @@ use Rattle.clog_applied.proofs.Whole.{with_report}
 use Rattle.write_path.specs.declared.commit.Receipt.{Receipt}
 use Rattle.clog_shares.specs.declared.fault.WriteFault.{WriteFault}
 use Rattle.clog_shares.specs.declared.fault.WriteFault.TheVariants as fault
-use Rattle.path_flush.specs.declared.switch_answer.Row.{Row}
-use Rattle.path_flush.specs.declared.switch_answer.Row.TheVariants as row
 use Rattle.clog_writers.specs.Left.{least_of}
-use Rattle.clog_writers.specs.Logged.{IsLack}
-use Rattle.clog_writers.specs.Written.{
-  HasShareCause,
-  HasWrittenShares,
-  AsksFor,
-  line_receipt,
-}
+use Rattle.clog_writers.specs.Written.{HasShareCause, HasWrittenShares, AsksFor, line_receipt}
 use Rattle.clog_engine.specs.declared.report.PendingReport.{PendingReport}
 use Rattle.clog_engine.specs.declared.status.Status.{Status}
 use Rattle.clog_engine.specs.declared.status.Status.TheVariants.{OutOfMemory}
-use Rattle.clog_engine.specs.Logged.{
-  AppliesLines,
-  AreLogged,
-  IsReported,
-  IsRun,
-  LastsFirst,
-  Turns,
-  Wrote,
-}
+use Rattle.clog_engine.specs.Logged.{AppliesLines, AreLogged, IsReported, IsRun, LastsFirst, Turns}
+use Rattle.clog_engine.specs.Logged.{Wrote}
 use Rattle.clog_engine.specs.Outside.{Outside}
 use Rattle.clog_engine.specs.Planning.{IsCellsOf}
 use Rattle.clog_engine.specs.Quiet.{IsRefusedBefore}
@@ -188,13 +152,11 @@ module _ (options : ApplyOptions) (o : Outside) (ms : List Mutation)
       → IsToldAs options.receipts pending outcome result
       → LastsFirst o options ms (least_of outcome ms)
       → HasShareCause o.disk_faults o.disk_faults_now outcome
-      → ((which : Row) (made : ℕ) → outcome ≡ err (fault.Rows which made)
-      → IsLack options.flush_at which made ms)
       → ((receipts : Vec Receipt) (report : List ℕ) → outcome ≡ ok receipts
       → report ≡ head_with options.receipts receipts.items ++ pending.rows.items
       → IsReported options ms report × Turns o (IsRun o options ms report))
       → AppliesLines options ms o result
-  shares_applied pending (ok receipts) result told_as lasts cause lack so =
+  shares_applied pending (ok receipts) result told_as lasts cause so =
       let report = head_with options.receipts receipts.items ++ pending.rows.items in
       let is = so receipts report refl refl in
       subst (AppliesLines options ms o) (sym told_as) (record {
@@ -202,20 +164,12 @@ module _ (options : ApplyOptions) (o : Outside) (ms : List Mutation)
         logged = logged (length ms) lasts;
         run = is.1;
       })
-  shares_applied pending (err (fault.Stopped at_open now)) result told_as lasts cause lack so =
+  shares_applied pending (err (fault.Stopped at_open now)) result told_as lasts cause so =
       subst (AppliesLines options ms o) (sym told_as) (cause.3, inr (inr (logged 0 lasts)))
-  shares_applied pending (err fault.OutOfMemory) result told_as lasts cause lack so =
+  shares_applied pending (err fault.OutOfMemory) result told_as lasts cause so =
       failed result told_as lasts
-  shares_applied pending (err fault.Spent) result told_as lasts cause lack so =
+  shares_applied pending (err fault.Spent) result told_as lasts cause so =
       failed result told_as lasts
-  shares_applied pending (err (fault.Rows row.AppendGroups n)) result told_as lasts cause lack so =
-      let many = lack row.AppendGroups n refl in
-      subst (AppliesLines options ms o) (sym told_as) (many.0, many.1, logged 0 lasts)
-  shares_applied pending (err (fault.Rows row.Memtables n)) result told_as lasts cause lack so =
-      subst (AppliesLines options ms o) (sym told_as)
-      (lack row.Memtables n refl, logged 0 lasts)
-  shares_applied pending (err (fault.Rows row.WriteGroups n)) result told_as lasts cause lack so =
-      absurd (lack row.WriteGroups n refl)
 
 -- a run that comes so far has called the disk
 pub shares_call : (receipts : Bool) (pending : PendingReport)
@@ -228,10 +182,4 @@ shares_call receipts pending (err (fault.Stopped at_open now)) result told_as be
 shares_call receipts pending (err fault.OutOfMemory) result told_as before =
     subst IsRefusedBefore told_as before
 shares_call receipts pending (err fault.Spent) result told_as before =
-    subst IsRefusedBefore told_as before
-shares_call receipts pending (err (fault.Rows row.AppendGroups n)) result told_as before =
-    subst IsRefusedBefore told_as before
-shares_call receipts pending (err (fault.Rows row.Memtables n)) result told_as before =
-    subst IsRefusedBefore told_as before
-shares_call receipts pending (err (fault.Rows row.WriteGroups n)) result told_as before =
     subst IsRefusedBefore told_as before

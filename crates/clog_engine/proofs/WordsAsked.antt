@@ -1,21 +1,6 @@
 -- Words ask for one thing, and their numbers are within limits.
-use Rattle.std.proofs.Common.{
-  ◌≡◌,
-  ℕ,
-  ◌≤◌,
-  List,
-  [],
-  ◌∷◌,
-  Option,
-  Some,
-  None,
-  sym,
-  ap,
-  subst,
-  ◌∙◌,
-  arith,
-  codes,
-}
+use Rattle.std.proofs.Common.{◌≡◌, ℕ, ◌≤◌, List, [], ◌∷◌, Option, Some, None, sym, ap, subst, ◌∙◌}
+use Rattle.std.proofs.Common.{arith, codes}
 use Rattle.clog_spec.specs.Names.{IsSegmentName}
 use Rattle.clog_base.proofs.NameLaws.{one_segment}
 use Rattle.clog_words.specs.declared.built.Built.{Built}
@@ -24,6 +9,7 @@ use Rattle.clog_words.specs.declared.request.ApplyOptions.{ApplyOptions}
 use Rattle.clog_words.specs.declared.request.ReplayOptions.{ReplayOptions}
 use Rattle.clog_words.specs.declared.request.Request.{Request}
 use Rattle.clog_words.specs.declared.request.Request.TheVariants.{Apply, Replay, Scan, Drill}
+use Rattle.clog_words.specs.declared.request.Request.TheVariants.{Orders}
 use Rattle.clog_words.specs.Asks.{Asks, IsNumberIfSaid, IsNumberOr, IsValueWithin}
 use Rattle.clog_words.specs.Built.{AsksBuilt, IsBuilt}
 use Rattle.clog_words.specs.Given.{Setting, said}
@@ -43,6 +29,10 @@ one_drill : (r : Request) (s t m n : ℕ) → r ≡ Drill s m → r ≡ Drill t 
     → built.Drill s m ≡ built.Drill t n
 one_drill r s t m n p q = let same : Drill s m ≡ Drill t n = sym p ∙ q in cc
 
+one_orders : (r : Request) (s t m n : ℕ) → r ≡ Orders s m → r ≡ Orders t n
+    → built.Orders s m ≡ built.Orders t n
+one_orders r s t m n p q = let same : Orders s m ≡ Orders t n = sym p ∙ q in cc
+
 -- a request asks for one thing
 one_built : (r : Request) (a b : Built) → IsBuilt r a → IsBuilt r b → a ≡ b
 one_built r (built.Apply o) (built.Apply o') p q = ap built.Apply (one_apply r o o' p q)
@@ -52,6 +42,8 @@ one_built r (built.Apply o) (built.Scan id) p q =
     let same : Apply o ≡ Scan q.0 = sym p ∙ q.1 in cc
 one_built r (built.Apply o) (built.Drill t n) p q =
     let same : Apply o ≡ Drill t n = sym p ∙ q in cc
+one_built r (built.Apply o) (built.Orders j i) p q =
+    let same : Apply o ≡ Orders j i = sym p ∙ q in cc
 one_built r (built.Replay o) (built.Apply o') p q =
     let same : Replay o ≡ Apply o' = sym p ∙ q in cc
 one_built r (built.Replay o) (built.Replay o') p q = ap built.Replay (one_replay r o o' p q)
@@ -59,6 +51,8 @@ one_built r (built.Replay o) (built.Scan id) p q =
     let same : Replay o ≡ Scan q.0 = sym p ∙ q.1 in cc
 one_built r (built.Replay o) (built.Drill t n) p q =
     let same : Replay o ≡ Drill t n = sym p ∙ q in cc
+one_built r (built.Replay o) (built.Orders j i) p q =
+    let same : Replay o ≡ Orders j i = sym p ∙ q in cc
 one_built r (built.Scan id) (built.Apply o) p q =
     let same : Scan p.0 ≡ Apply o = sym p.1 ∙ q in cc
 one_built r (built.Scan id) (built.Replay o) p q =
@@ -69,6 +63,8 @@ one_built r (built.Scan id) (built.Scan id') p q =
     (subst (λ (n : List ℕ). IsSegmentName n 6 id) same p.2) q.2).1
 one_built r (built.Scan id) (built.Drill t n) p q =
     let same : Scan p.0 ≡ Drill t n = sym p.1 ∙ q in cc
+one_built r (built.Scan id) (built.Orders j i) p q =
+    let same : Scan p.0 ≡ Orders j i = sym p.1 ∙ q in cc
 one_built r (built.Drill s m) (built.Apply o) p q =
     let same : Drill s m ≡ Apply o = sym p ∙ q in cc
 one_built r (built.Drill s m) (built.Replay o) p q =
@@ -76,6 +72,17 @@ one_built r (built.Drill s m) (built.Replay o) p q =
 one_built r (built.Drill s m) (built.Scan id) p q =
     let same : Drill s m ≡ Scan q.0 = sym p ∙ q.1 in cc
 one_built r (built.Drill s m) (built.Drill t n) p q = one_drill r s t m n p q
+one_built r (built.Drill s m) (built.Orders j i) p q =
+    let same : Drill s m ≡ Orders j i = sym p ∙ q in cc
+one_built r (built.Orders k l) (built.Apply o) p q =
+    let same : Orders k l ≡ Apply o = sym p ∙ q in cc
+one_built r (built.Orders k l) (built.Replay o) p q =
+    let same : Orders k l ≡ Replay o = sym p ∙ q in cc
+one_built r (built.Orders k l) (built.Scan id) p q =
+    let same : Orders k l ≡ Scan q.0 = sym p ∙ q.1 in cc
+one_built r (built.Orders k l) (built.Drill t n) p q =
+    let same : Orders k l ≡ Drill t n = sym p ∙ q in cc
+one_built r (built.Orders k l) (built.Orders j i) p q = one_orders r k j l i p q
 
 -- words do not ask for two things
 pub one_asked : (words : List (List ℕ)) (a b : Built) → AsksBuilt words a → AsksBuilt words b
@@ -123,6 +130,19 @@ pub count_within : (words : List (List ℕ)) (seed count : ℕ)
     → AsksBuilt words (built.Drill seed count) → count ≤ 1000000
 count_within words seed count asked =
     asked_count words seed count (subst (Asks words) asked.is_built asked.asks)
+
+asked_rounds : (words : List (List ℕ)) (readers rounds : ℕ) → Asks words (Orders readers rounds)
+    → (1 ≤ readers) × (readers ≤ 63) × (rounds ≤ 100000)
+asked_rounds [] readers rounds asks = absurd asks
+asked_rounds (command ∷ words) readers rounds asks =
+    (asks.1.readers_is.from, asks.1.readers_is.up_to, asks.1.rounds_is.up_to)
+
+-- there are as many readers and rounds as there may be
+pub orders_within : (words : List (List ℕ)) (readers rounds : ℕ)
+    → AsksBuilt words (built.Orders readers rounds)
+    → (1 ≤ readers) × (readers ≤ 63) × (rounds ≤ 100000)
+orders_within words readers rounds asked =
+    asked_rounds words readers rounds (subst (Asks words) asked.is_built asked.asks)
 
 asked_segments : (words : List (List ℕ)) (options : ApplyOptions) → Asks words (Apply options)
     → (4 ≤ options.segment_kib) × (options.segment_kib ≤ 32768)

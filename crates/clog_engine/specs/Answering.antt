@@ -3,15 +3,11 @@ use Rattle.std.specs.Prelude.{◌≡◌, ◌⊎◌, ℕ, List, Option, Some, Non
 use Rattle.std.specs.declared.alloc.Global.{Global}
 use Rattle.std.specs.declared.result.Result.TheVariants as result
 use Rattle.clog_engine.specs.declared.status.Status.{Status}
-use Rattle.clog_engine.specs.declared.status.Status.TheVariants.{
-  Ok,
-  Usage,
-  WriteFault,
-  OutOfMemory,
-}
+use Rattle.clog_engine.specs.declared.status.Status.TheVariants.{Ok, Usage, WriteFault, OutOfMemory}
 use Rattle.clog_words.specs.declared.built.Built.{Built}
-use Rattle.clog_words.specs.declared.built.Built.TheVariants.{Apply, Replay, Scan, Drill}
+use Rattle.clog_words.specs.declared.built.Built.TheVariants.{Apply, Replay, Scan, Drill, Orders}
 use Rattle.clog_engine.specs.Drill.{Drills}
+use Rattle.clog_engine.specs.Orders.{RunsOrders}
 use Rattle.clog_engine.specs.Replaying.{ReplaysFolder}
 use Rattle.clog_engine.specs.Request.{Asks}
 use Rattle.clog_engine.specs.Scanning.{Scans}
@@ -35,6 +31,8 @@ Does (Some (Replay options)) o outcome =
 Does (Some (Scan id)) o outcome =
     Scans id o.files o.disk_faults o.disk_faults_now outcome × IsLeftAlone o × IsUnread o
 Does (Some (Drill seed count)) o outcome = Drills seed count o outcome × IsUnread o
+Does (Some (Orders readers rounds)) o outcome =
+    RunsOrders readers rounds outcome × IsLeftAlone o × IsUnread o
 
 -- Memory for the words was refused.
 abbrev pub HasNoWords : Outside → Result (List ℕ) Status → Type 0

@@ -1,13 +1,8 @@
 -- What `apply` does to the disk and reports, and why it does not.
 use Rattle.std.specs.Prelude.{◌≡◌, ◌⊎◌, ℕ, ◌<◌, List, length, false, IfSome, Result}
 use Rattle.std.specs.declared.result.Result.TheVariants as result
-use Rattle.clog_base.specs.declared.fault.Quantity.TheVariants.{
-  FileBytes,
-  Lines,
-  SegmentBytes,
-  Ids,
-  TableFiles,
-}
+use Rattle.clog_base.specs.declared.fault.Quantity.TheVariants.{FileBytes, Lines, SegmentBytes, Ids}
+use Rattle.clog_base.specs.declared.fault.Quantity.TheVariants.{TableFiles}
 use Rattle.clog_io.specs.Bytes.{TakesAll}
 use Rattle.clog_io.specs.Causes.{Rose}
 use Rattle.clog_mutation.specs.declared.mutation.Mutation.{Mutation}
@@ -20,29 +15,10 @@ use Rattle.clog_segments.specs.Named.{sequence_limit, id_limit}
 use Rattle.clog_segments.specs.Opened.{HasGreatId, HasManyTables}
 use Rattle.clog_applied.specs.Asked.{capacity_of}
 use Rattle.clog_engine.specs.declared.status.Status.{Status}
-use Rattle.clog_engine.specs.declared.status.Status.TheVariants.{
-  BadLine,
-  TooLarge,
-  ReadFault,
-  DiskFault,
-  Damaged,
-  BadTable,
-  OutOfMemory,
-  Limit,
-  Groups,
-  Memtables,
-}
-use Rattle.clog_engine.specs.Input.{
-  HasManyLines,
-  HasBadLine,
-  HasLargeLine,
-  IsGood,
-  IsSized,
-  MayWantGroups,
-  MayWantMemtables,
-  Takes,
-}
-use Rattle.clog_engine.specs.Limits.{group_limit}
+use Rattle.clog_engine.specs.declared.status.Status.TheVariants.{BadLine, TooLarge, ReadFault}
+use Rattle.clog_engine.specs.declared.status.Status.TheVariants.{DiskFault, Damaged, BadTable}
+use Rattle.clog_engine.specs.declared.status.Status.TheVariants.{OutOfMemory, Limit}
+use Rattle.clog_engine.specs.Input.{HasManyLines, HasBadLine, HasLargeLine, IsGood, IsSized, Takes}
 use Rattle.clog_engine.specs.Logged.{AreApplied, AreLogged, KeepsAll}
 use Rattle.clog_engine.specs.Outside.{Outside, IsLeftAlone}
 
@@ -103,15 +79,6 @@ ApplyRefuses options (Limit TableFiles most) o =
     × IsLeftAlone o
 ApplyRefuses options (Limit Ids most) o =
     (most ≡ id_limit) × ReadsGood options o × IfSome o.files HasGreatId × IsLeftAlone o
--- a group was wanted behind the last: all was good, the folder could be opened, and the lines are
--- many
-ApplyRefuses options (Groups most) o =
-    (most ≡ group_limit) × ReadsToEnd o (MayWantGroups (capacity_of options))
-    × IsPartly options o
--- a memtable was wanted behind the last of a table: all was good, the folder could be opened, and a
--- table has many updates
-ApplyRefuses options (Memtables most) o =
-    ReadsToEnd o (MayWantMemtables options most) × IsPartly options o
 ApplyRefuses options other o = ⊥
 
 -- a report, or why there is none

@@ -1,29 +1,8 @@
 -- What `drill` does, and what it prints: lines that are made are applied, and then the folder is
 -- replayed and told in numbers.
-use Rattle.std.specs.Prelude.{
-  ◌≡◌,
-  ◌⊎◌,
-  ◌+◌,
-  ◌≤◌,
-  ℕ,
-  ℤ,
-  pos,
-  ◌+ℤ◌,
-  List,
-  ◌∷◌,
-  ◌++◌,
-  length,
-  count_by,
-  Bool,
-  true,
-  false,
-  None,
-  Some,
-  IfSome,
-  Option,
-  codes,
-  Result,
-}
+use Rattle.std.specs.Prelude.{◌≡◌, ◌⊎◌, ℕ, ℤ, pos, ◌+ℤ◌, List, ◌∷◌, ◌++◌, length}
+use Rattle.std.specs.Prelude.{count_by, Bool, true, false, None, Some, IfSome, Option, codes}
+use Rattle.std.specs.Prelude.{Result}
 use Rattle.std.specs.declared.result.Result.TheVariants as result
 use Rattle.std.specs.Fmt.{signed_decimal}
 use Rattle.std.specs.List.{fold, sum_by}
@@ -47,20 +26,11 @@ use Rattle.clog_words.specs.declared.request.ApplyOptions.{ApplyOptions}
 use Rattle.clog_applied.specs.Printed.{line}
 use Rattle.replay_merge.specs.declared.restoring.Restored.{Restored}
 use Rattle.replay_merge.specs.Restoring.{IsReplayOf}
-use Rattle.clog_writers.specs.Logged.{HasManyUpdates}
 use Rattle.clog_engine.specs.declared.summary.Tally.{Tally}
 use Rattle.clog_engine.specs.declared.status.Status.{Status}
-use Rattle.clog_engine.specs.declared.status.Status.TheVariants.{
-  DiskFault,
-  Damaged,
-  BadTable,
-  OutOfMemory,
-  Limit,
-  Groups,
-  Memtables,
-}
-use Rattle.clog_engine.specs.Limits.{group_limit}
-use Rattle.clog_engine.specs.Logged.{AreApplied, AreLogged, LeavesSome}
+use Rattle.clog_engine.specs.declared.status.Status.TheVariants.{DiskFault, Damaged, BadTable}
+use Rattle.clog_engine.specs.declared.status.Status.TheVariants.{OutOfMemory, Limit}
+use Rattle.clog_engine.specs.Logged.{AreApplied, LeavesSome}
 use Rattle.clog_engine.specs.Outside.{Outside, IsLeftAlone}
 use Rattle.clog_engine.specs.Planning.{ArePlanned}
 use Rattle.clog_engine.specs.Replaying.{ReplayRefused}
@@ -162,10 +132,6 @@ DrillRefuses lines (Limit TableFiles most) o =
     (most ≡ sequence_limit) × IfSome o.files HasManyTables × IsLeftAlone o
 DrillRefuses lines (Limit Ids most) o =
     (most ≡ id_limit) × IfSome o.files HasGreatId × IsLeftAlone o
-DrillRefuses lines (Groups most) o =
-    (most ≡ group_limit) × (group_limit ≤ 1 + length lines) × AreLogged o drill_options lines 0
-DrillRefuses lines (Memtables most) o =
-    HasManyUpdates drill_options.flush_at most lines × AreLogged o drill_options lines 0
 DrillRefuses lines other o = ⊥
 
 -- a report of lines, or why there is none

@@ -1,33 +1,16 @@
 -- The number of a status, and the line that tells a fault.
 use Rattle.std.specs.Prelude.{ℕ, List, [], ◌++◌, codes, decimal}
 use Rattle.clog_base.specs.declared.fault.Quantity.{Quantity}
-use Rattle.clog_base.specs.declared.fault.Quantity.TheVariants.{
-  FileBytes,
-  Lines,
-  SegmentBytes,
-  Ids,
-  TableFiles,
-}
+use Rattle.clog_base.specs.declared.fault.Quantity.TheVariants.{FileBytes, Lines, SegmentBytes, Ids}
+use Rattle.clog_base.specs.declared.fault.Quantity.TheVariants.{TableFiles}
 use Rattle.clog_entry.specs.CauseText.{cause_text}
 use Rattle.clog_table.specs.FaultTexts.{fault_text}
 use Rattle.clog_text.specs.Refusals.{refusal_text}
 use Rattle.clog_engine.specs.declared.status.Status.{Status}
-use Rattle.clog_engine.specs.declared.status.Status.TheVariants.{
-  Ok,
-  Usage,
-  BadLine,
-  TooLarge,
-  ReadFault,
-  WriteFault,
-  DiskFault,
-  Damaged,
-  BadTable,
-  OutOfMemory,
-  Limit,
-  Groups,
-  Memtables,
-  Absent,
-}
+use Rattle.clog_engine.specs.declared.status.Status.TheVariants.{Ok, Usage, BadLine, TooLarge}
+use Rattle.clog_engine.specs.declared.status.Status.TheVariants.{ReadFault, WriteFault, DiskFault}
+use Rattle.clog_engine.specs.declared.status.Status.TheVariants.{Damaged, BadTable, OutOfMemory}
+use Rattle.clog_engine.specs.declared.status.Status.TheVariants.{Limit, Absent}
 use Rattle.clog_applied.specs.Printed.{line}
 
 abbrev pub quantity_name : Quantity → List ℕ
@@ -59,8 +42,6 @@ fault_line (BadTable name fault) =
     line (codes "error 8: " ++ name ++ codes ": " ++ fault_text fault)
 fault_line OutOfMemory = line (codes "error 9: out of memory")
 fault_line (Limit what number) = limit_line (quantity_name what) number
-fault_line (Groups number) = limit_line (codes "groups") number
-fault_line (Memtables number) = limit_line (codes "memtables") number
 fault_line (Absent name) = line (codes "error 11: no file " ++ name)
 
 abbrev pub number_of : Status → ℕ
@@ -75,6 +56,4 @@ number_of (Damaged name at cause) = 7
 number_of (BadTable name fault) = 8
 number_of OutOfMemory = 9
 number_of (Limit what number) = 10
-number_of (Groups number) = 10
-number_of (Memtables number) = 10
 number_of (Absent name) = 11

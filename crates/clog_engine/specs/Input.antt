@@ -1,5 +1,5 @@
 -- How far a mutation file is good, by the capacity of a segment.
-use Rattle.std.specs.Prelude.{◌≡◌, ℕ, ◌+◌, ◌<◌, ◌≤◌, List, length, Option, Ok, Err}
+use Rattle.std.specs.Prelude.{◌≡◌, ℕ, ◌<◌, ◌≤◌, List, length, Option, Ok, Err}
 use Rattle.std.specs.List.{AllByRecursion}
 use Rattle.clog_spec.specs.Sizes.{file_limit}
 use Rattle.clog_io.specs.Bytes.{TakesAll}
@@ -8,11 +8,7 @@ use Rattle.clog_text.specs.declared.refusal.BadLine.{BadLine}
 use Rattle.clog_text.specs.declared.refusal.BadLine.TheVariants.{OutOfMemory as no_memory}
 use Rattle.clog_text.specs.FileLines.{lines_of, line_limit}
 use Rattle.clog_text.specs.FileMutations.{file_mutations}
-use Rattle.clog_words.specs.declared.request.ApplyOptions.{ApplyOptions}
-use Rattle.clog_applied.specs.Asked.{capacity_of}
 use Rattle.clog_shares.specs.Fitting.{HasFittingEntry, HasLargeMutation}
-use Rattle.clog_writers.specs.Logged.{HasManyUpdates}
-use Rattle.clog_engine.specs.Limits.{group_limit}
 
 -- The file is not too long, and has not too many lines.
 pub record IsSplit (bytes : List ℕ) : Type 0 where
@@ -50,20 +46,6 @@ pub record HasLargeLine (capacity : ℕ) (bytes : List ℕ) (number size most : 
 pub record IsGood (capacity : ℕ) (bytes : List ℕ) : Type 0 where
   pub mutations : List Mutation
   pub sized : IsSized capacity bytes mutations
-
--- All is good, and its lines are at least as many as the groups of the append order that there are,
--- but for the first: so many markers a run of them may want.
-pub record MayWantGroups (capacity : ℕ) (bytes : List ℕ) : Type 0 where
-  pub mutations : List Mutation
-  pub sized : IsSized capacity bytes mutations
-  pub many : group_limit ≤ 1 + length mutations
-
--- All is good, and of some table the lines have as many updates as writers flush at, for each
--- memtable that a table has but the first.
-pub record MayWantMemtables (options : ApplyOptions) (most : ℕ) (bytes : List ℕ) : Type 0 where
-  pub mutations : List Mutation
-  pub sized : IsSized (capacity_of options) bytes mutations
-  pub many : HasManyUpdates options.flush_at most mutations
 
 -- a source was read to its end, and the bytes that it gave are such
 abbrev pub Takes : Option (List ℕ) → Option (List ℕ) → (List ℕ → Type 0) → Type 0

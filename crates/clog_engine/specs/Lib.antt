@@ -7,6 +7,7 @@ pub mod Faults
 pub mod Input
 pub mod Limits
 pub mod Logged
+pub mod Orders
 pub mod Outside
 pub mod Planning
 pub mod Quiet

@@ -1,27 +1,7 @@
 -- What becomes of lines that are to be logged, however they came: what a crash leaves of them, what
 -- is so when all of them are applied, and what is left where they are not.
-use Rattle.std.specs.Prelude.{
-  ◌≡◌,
-  ◌⊎◌,
-  ℕ,
-  ◌+◌,
-  ◌<◌,
-  ◌≤◌,
-  List,
-  ◌++◌,
-  length,
-  map,
-  take,
-  false,
-  Contains,
-  Option,
-  Some,
-  None,
-  IfSome,
-  is_some,
-  option_map,
-  Result,
-}
+use Rattle.std.specs.Prelude.{◌≡◌, ◌⊎◌, ℕ, ◌<◌, ◌≤◌, List, ◌++◌, length, map, take, false}
+use Rattle.std.specs.Prelude.{Contains, Option, Some, None, IfSome, is_some, option_map, Result}
 use Rattle.std.specs.declared.result.Result.TheVariants as result
 use Rattle.std.specs.List.{AllPairs, flat_map}
 use Rattle.clog_base.specs.declared.cell.Cell.{Cell}
@@ -44,15 +24,8 @@ use Rattle.clog_crash.specs.Readings.{RestoresIn}
 use Rattle.clog_crash.specs.Restore.{IsUndamaged}
 use Rattle.clog_folder.specs.Folder.{HasDamage, HasLongSegment}
 use Rattle.clog_segments.specs.Named.{sequence_limit, id_limit}
-use Rattle.clog_segments.specs.Opened.{
-  CanBeOpened,
-  HasGreatId,
-  HasManyTables,
-  IsOpened,
-  KeepsFolder,
-  RecoversAll,
-  RecoversFirst,
-}
+use Rattle.clog_segments.specs.Opened.{CanBeOpened, HasGreatId, HasManyTables, IsOpened}
+use Rattle.clog_segments.specs.Opened.{KeepsFolder, RecoversAll, RecoversFirst}
 use Rattle.clog_applied.specs.Applied.{IsAppliedRun}
 use Rattle.clog_applied.specs.Closed.{ClosedRun}
 use Rattle.clog_applied.specs.Filed.{BringsNoOther, IsAbove, KeepsOthers}
@@ -65,18 +38,9 @@ use Rattle.clog_closing.specs.Written.{AreMadeFor, GoesBeyond, IsWrittenBy}
 use Rattle.clog_writers.specs.Left.{SaysShares, said_by}
 use Rattle.clog_writers.specs.Written.{BeginsIn, HasReceipts}
 use Rattle.write_path.specs.declared.commit.Receipt.{Receipt}
-use Rattle.clog_writers.specs.Logged.{HasManyUpdates}
 use Rattle.clog_engine.specs.declared.status.Status.{Status}
-use Rattle.clog_engine.specs.declared.status.Status.TheVariants.{
-  DiskFault,
-  Damaged,
-  BadTable,
-  OutOfMemory,
-  Limit,
-  Groups,
-  Memtables,
-}
-use Rattle.clog_engine.specs.Limits.{group_limit}
+use Rattle.clog_engine.specs.declared.status.Status.TheVariants.{DiskFault, Damaged, BadTable}
+use Rattle.clog_engine.specs.declared.status.Status.TheVariants.{OutOfMemory, Limit}
 use Rattle.clog_engine.specs.Outside.{Outside, IsLeftAlone}
 use Rattle.clog_engine.specs.Report.{IsReport, head_with}
 use Rattle.clog_engine.specs.Request.{AreSizesOf}
@@ -247,13 +211,6 @@ LinesRefuse options mutations (Limit TableFiles most) o =
     (most ≡ sequence_limit) × IfSome o.files HasManyTables × IsLeftAlone o
 LinesRefuse options mutations (Limit Ids most) o =
     (most ≡ id_limit) × IfSome o.files HasGreatId × IsLeftAlone o
--- a group was wanted behind the last, as it may be for so many lines; the folder could be opened
-LinesRefuse options mutations (Groups most) o =
-    (most ≡ group_limit) × (group_limit ≤ 1 + length mutations) × AreLogged o options mutations 0
--- a memtable was wanted behind the last of a table, as it may be where a table has many updates;
--- the folder could be opened
-LinesRefuse options mutations (Memtables most) o =
-    HasManyUpdates options.flush_at most mutations × AreLogged o options mutations 0
 LinesRefuse options mutations other o = ⊥
 
 -- a report of lines that are applied, or why there is none

@@ -1,17 +1,5 @@
 -- How a run ends whose disk or folder is refused, or whose lines were written.
-use Rattle.std.specs.Prelude.{
-  ◌≡◌,
-  ℕ,
-  ◌+◌,
-  ◌*◌,
-  ◌≤◌,
-  List,
-  ◌++◌,
-  vec_capacity,
-  Bool,
-  Result,
-  Vec,
-}
+use Rattle.std.specs.Prelude.{◌≡◌, ℕ, ◌+◌, ◌*◌, ◌≤◌, List, ◌++◌, vec_capacity, Bool, Result, Vec}
 use Rattle.std.specs.declared.alloc.Global.{Global}
 use Rattle.std.specs.declared.result.Result.TheVariants as result
 use Rattle.clog_disk.specs.declared.disk.DiskFault.{DiskFault}
@@ -20,19 +8,11 @@ use Rattle.clog_folder.specs.declared.fault.OpenFault.{OpenFault}
 use Rattle.clog_folder.specs.declared.fault.OpenFault.TheVariants as refusal
 use Rattle.write_path.specs.declared.commit.Receipt.{Receipt}
 use Rattle.clog_shares.specs.declared.fault.WriteFault.{WriteFault}
-use Rattle.clog_shares.specs.declared.fault.WriteFault.TheVariants.{Rows, Spent, Stopped}
-use Rattle.path_flush.specs.declared.switch_answer.Row.TheVariants as row
+use Rattle.clog_shares.specs.declared.fault.WriteFault.TheVariants.{Spent, Stopped}
 use Rattle.clog_engine.specs.declared.report.PendingReport.{PendingReport}
 use Rattle.clog_engine.specs.declared.status.Status.{Status}
-use Rattle.clog_engine.specs.declared.status.Status.TheVariants.{
-  DiskFault as HasDiskFault,
-  Damaged,
-  BadTable,
-  OutOfMemory,
-  Limit,
-  Groups,
-  Memtables,
-}
+use Rattle.clog_engine.specs.declared.status.Status.TheVariants.{DiskFault as HasDiskFault, Damaged}
+use Rattle.clog_engine.specs.declared.status.Status.TheVariants.{BadTable, OutOfMemory, Limit}
 use Rattle.clog_engine.specs.Report.{head_with, longest_receipt}
 
 abbrev pub status_of : DiskFault → Status
@@ -51,10 +31,6 @@ folder_status refusal.OutOfMemory = OutOfMemory
 abbrev pub IsUnspent : {T : Type 0} → Result T WriteFault → Type 0
 IsUnspent outcome = outcome ≡ result.Err Spent → ⊥
 
--- nor for want of groups of the write order
-abbrev pub IsUngrouped : {T : Type 0} → Result T WriteFault → Type 0
-IsUngrouped outcome = (made : ℕ) → outcome ≡ result.Err (Rows row.WriteGroups made) → ⊥
-
 -- there is room for a head of so many receipts
 abbrev pub HasRoomFor : ℕ → PendingReport → Type 0
 HasRoomFor lines pending = longest_receipt * (lines + 1) ≤ vec_capacity pending.room
@@ -66,8 +42,4 @@ IsToldAs receipts pending (result.Ok logged) told =
     told ≡ result.Ok (head_with receipts logged.items ++ pending.rows.items)
 IsToldAs receipts pending (result.Err (Stopped at_open now)) told =
     told ≡ result.Err HasDiskFault
-IsToldAs receipts pending (result.Err (Rows row.AppendGroups made)) told =
-    told ≡ result.Err (Groups made)
-IsToldAs receipts pending (result.Err (Rows row.Memtables made)) told =
-    told ≡ result.Err (Memtables made)
 IsToldAs receipts pending (result.Err other) told = told ≡ result.Err OutOfMemory

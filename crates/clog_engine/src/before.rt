@@ -10,11 +10,12 @@ use clog_disk::Disk;
 use clog_io::Gate;
 use replay_merge::replay;
 use std::alloc::Global;
+use std::sync::Wait;
 use std::thread::Threads;
 
 /// The cells that the folder restores to, where a dump asks for them; else none. They are read
 /// before anything changes, so that whatever is refused for what the folder holds leaves it alone.
-pub(crate) fn cells_before<T: Threads + Sync, D: Disk, G: Gate + Sync>(
+pub(crate) fn cells_before<T: Threads + Wait + Sync, D: Disk, G: Gate + Sync>(
     rt: &T,
     alloc: Global,
     disk: &mut D,

@@ -6,13 +6,8 @@ ghost use Rattle.std.specs.Prelude.{◌≡◌, ◌≤◌, ℕ, List, length, Opt
 ghost use Rattle.clog_spec.specs.Sizes.{most_tables};
 ghost use Rattle.clog_folder.specs.Passing.{IsUntouched};
 ghost use Rattle.clog_mutation.specs.declared.mutation.Mutation.{Mutation as Line};
-ghost use Rattle.clog_engine.specs.Drill.{
-  Drills,
-  PlansMade,
-  TellsFolder,
-  drill_options as options_of_drill,
-  updates_of,
-};
+ghost use Rattle.clog_engine.specs.Drill.{Drills, PlansMade, TellsFolder};
+ghost use Rattle.clog_engine.specs.Drill.{drill_options as options_of_drill, updates_of};
 ghost use Rattle.clog_engine.specs.Outside.{outside_with};
 ghost use Rattle.clog_engine.specs.Quiet.{IsRefusedBefore, TellsEach};
 ghost use Rattle.clog_engine.specs.Request.{IsDoable};
@@ -79,7 +74,7 @@ fn plan_made<T: Threads + Sync, D: Disk + Drop>(
 }
 
 // Replays the folder, and tells it and so many lines in numbers.
-fn tell_folder<T: Threads + Sync, D: Disk, G: Gate + Sync>(
+fn tell_folder<T: Threads + Wait + Sync, D: Disk, G: Gate + Sync>(
     rt: &T,
     alloc: Global,
     lines: u32,

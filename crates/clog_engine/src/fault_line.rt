@@ -137,8 +137,6 @@ fn put_fault(row: &mut TextRow, status: &Status)
         Status::BadTable(name, fault) => put_bad_table(row, name, fault),
         Status::OutOfMemory => row.put(b"error 9: out of memory\n"),
         Status::Limit(what, number) => put_limit(row, quantity_name(*what), *number),
-        Status::Groups(number) => put_limit(row, b"groups", *number),
-        Status::Memtables(number) => put_limit(row, b"memtables", *number),
         Status::Absent(name) => put_absent(row, name),
     }
 }

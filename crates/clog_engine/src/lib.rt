@@ -10,6 +10,7 @@ mod copies;
 mod drilling;
 mod fault_line;
 mod input;
+mod ordering;
 mod printing;
 mod receipts;
 mod refusal;

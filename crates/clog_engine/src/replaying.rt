@@ -17,6 +17,7 @@ use clog_words::ReplayOptions;
 use itoa::Buffer;
 use replay_merge::{Counts, Restored, replay};
 use std::alloc::{AllocError, Global};
+use std::sync::Wait;
 use std::thread::Threads;
 
 /// Puts what is counted, and how many there are.
@@ -52,7 +53,7 @@ fn report_of(alloc: Global, restored: &Restored) -> Result<Report, OutOfMemory>
 
 /// What the folder restores to and its counts, read by so many workers. Nothing on the disk
 /// changes.
-pub(crate) fn replay_folder<T: Threads + Sync, D: Disk, G: Gate + Sync>(
+pub(crate) fn replay_folder<T: Threads + Wait + Sync, D: Disk, G: Gate + Sync>(
     rt: &T,
     alloc: Global,
     options: ReplayOptions,

@@ -7,6 +7,7 @@ ghost use Rattle.clog_engine.specs.Quiet.{IsBeforeDisk, IsRefusedBefore, TellsEa
 
 use crate::applying::apply;
 use crate::drilling::drill;
+use crate::ordering::orders;
 use crate::printing::{Report, print};
 use crate::replaying::replay_folder;
 use crate::scanning::scan_segment;
@@ -53,6 +54,10 @@ fn outcome_of<
             (disk, outcome)
         }
         Ok(Some(Built::Drill { seed, count })) => drill(rt, alloc, seed, count, disk, clock, gate),
+        Ok(Some(Built::Orders { readers, rounds })) => {
+            let outcome = orders(rt, alloc, readers, rounds);
+            (disk, outcome)
+        }
         Ok(None) => (disk, Err(Status::Usage)),
         Err(OutOfMemory) => (disk, Err(Status::OutOfMemory)),
     }
@@ -88,9 +93,6 @@ fn outcome_of<
 /// - At `Ok` each writer has fewer updates of a table above the end of the table's last file than
 ///   that number, and each table of which a writer's share has so many has a file; no segment of
 ///   the run is left whose entries table files hold.
-/// - A table may have 256 memtables in a run, and where a flush wants a further one it ends with
-///   `Memtables`: so only where some table has at least 255 times that number of updates in the
-///   file.
 ///
 /// With `--sync batch` a writer waits for the sync of each line before it logs its next one, so no
 /// section of a segment holds two lines of one writer, and where a sync is refused it logs no more.
@@ -106,18 +108,16 @@ fn outcome_of<
 /// - of `drill`, all that it means of `apply` without options but `--writers 4`,
 ///   `--segment-kib 1024` and `--flush-at 1000`, with the made lines as those of the file, and that
 ///   the report has their numbers, and those of what the folder then restores to; the source is not
-///   read.
-///
-/// A drill of some 510,000 lines or more may end with `Memtables`: of a thousand lines each of
-/// three tables has some 500 updates, and 255,000 of one table are enough.
+///   read;
+/// - of `orders`, that the report tells as many values published and places freed as there are
+///   rounds, and as many operations of each reader; the disk is as it was.
 ///
 /// Where the words ask for what can be done and no fault was counted, it ends with `Ok`, or for
-/// want of memory, of groups or, of a run that flushes while it writes, of memtables. A fault of
-/// the disk is told: without `DiskFault` none was counted. What the words or the mutation file
-/// refuse by themselves leaves the disk uncalled, and what the folder refuses for what it holds
-/// leaves it as it was.
+/// want of memory. A fault of the disk is told: without `DiskFault` none was counted. What the
+/// words or the mutation file refuse by themselves leaves the disk uncalled, and what the folder
+/// refuses for what it holds leaves it as it was.
 ///
-/// After `DiskFault`, `OutOfMemory`, `Groups` and `Memtables`:
+/// After `DiskFault` and `OutOfMemory`:
 ///
 /// - The changes are the first of a recovery's, or all of these and others: appends to the run's
 ///   segments, with what a drain changes behind them; with a flush limit true table files and

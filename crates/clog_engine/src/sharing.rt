@@ -11,7 +11,7 @@ ghost use Rattle.clog_engine.specs.Logged.{AppliesLines};
 ghost use Rattle.clog_engine.specs.Outside.{outside_with};
 ghost use Rattle.clog_engine.specs.Planning.{ArePlanned};
 ghost use Rattle.clog_engine.specs.Quiet.{IsRefusedBefore, TellsEach};
-ghost use Rattle.clog_engine.specs.Refusal.{HasRoomFor, IsToldAs, IsUngrouped, IsUnspent};
+ghost use Rattle.clog_engine.specs.Refusal.{HasRoomFor, IsToldAs, IsUnspent};
 ghost use Rattle.clog_engine.specs.Request.{AreSizesOf, IsDoable};
 
 use crate::before::cells_before;
@@ -29,17 +29,16 @@ use clog_writers::{Syncing, WriteFault, write_plan};
 use std::alloc::Global;
 use std::sync::Wait;
 use std::thread::Threads;
-use write_path::{Receipt, Row};
+use write_path::Receipt;
 
 // How a run ends whose lines were logged by their writers, or not: no log is spent by as many lines
-// as a file has, nor are groups of the write order, and there is room for the report of as many.
+// as a file has, and there is room for the report of as many.
 fn told(
     pending: PendingReport,
     receipts: bool,
     outcome: Result<Vec<Receipt>, WriteFault>,
 ) -> Result<Report, Status>
     requires unspent { IsUnspent outcome }
-    requires ungrouped { IsUngrouped outcome }
     requires void { pending.room.items ≡ [] }
     requires room { IfOk outcome (λ told. HasRoomFor (length told.items) pending) }
     ensures { IsToldAs receipts pending outcome result }
@@ -48,9 +47,6 @@ fn told(
         Ok(told) => Ok(finished(pending, receipts, told.as_slice())),
         Err(WriteFault::Stopped { .. }) => Err(Status::DiskFault),
         Err(WriteFault::OutOfMemory) => Err(Status::OutOfMemory),
-        Err(WriteFault::Rows(Row::AppendGroups, most)) => Err(Status::Groups(most)),
-        Err(WriteFault::Rows(Row::Memtables, most)) => Err(Status::Memtables(most)),
-        Err(WriteFault::Rows(Row::WriteGroups, _)) => unreachable!(),
         Err(WriteFault::Spent) => unreachable!(),
     }
 }

@@ -6,11 +6,10 @@ use clog_scan::Cause;
 use clog_table::TableFault;
 use clog_text::BadLine;
 
-/// How a run ends. Each refusal leaves the disk as it was, but `DiskFault`, `OutOfMemory`,
-/// `Groups`, `Memtables` and `WriteFault`, which comes when all is done. After the first four the
-/// folder may be recovered, in part or whole, and the first of the lines may stand in it; where all
-/// of it lasted before, and nothing passes a check by chance, it restores to what it restored to,
-/// with these.
+/// How a run ends. Each refusal leaves the disk as it was, but `DiskFault`, `OutOfMemory` and
+/// `WriteFault`, which comes when all is done. After the first two the folder may be recovered, in
+/// part or whole, and the first of the lines may stand in it; where all of it lasted before, and
+/// nothing passes a check by chance, it restores to what it restored to, with these.
 #[derive(Clone, Copy, Debug, PartialEq, Eq)]
 pub enum Status {
     /// The report was written whole.
@@ -38,12 +37,6 @@ pub enum Status {
     OutOfMemory,
     /// There are more of these than the number.
     Limit(Quantity, u64),
-    /// The lines want more groups of the append order than this number, which is the most of a run.
-    Groups(u64),
-    /// A table wants more memtables than this number, which is the most that it has in a run. Only
-    /// a run that flushes while it writes ends so, and only where some table has at least 255 times
-    /// as many updates as a writer flushes at. So a drill of some 510,000 lines or more may.
-    Memtables(u64),
     /// The disk has no file of this name.
     Absent(Name),
 }
@@ -66,7 +59,7 @@ impl Status {
             Status::Damaged(_, _, _) => 7,
             Status::BadTable(_, _) => 8,
             Status::OutOfMemory => 9,
-            Status::Limit(_, _) | Status::Groups(_) | Status::Memtables(_) => 10,
+            Status::Limit(_, _) => 10,
             Status::Absent(_) => 11,
         }
     }

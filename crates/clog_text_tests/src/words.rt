@@ -109,6 +109,9 @@ fn the_other_commands_have_theirs(rt: HostRuntime) -> Result<(), Fail> {
     ] {
         assert!(rt; asked(alloc, line)? == Ok(Request::Drill { seed, count }));
     }
+    for (line, readers, rounds) in [("orders 1 0", 1, 0), ("orders 63 100000", 63, 100_000)] {
+        assert!(rt; asked(alloc, line)? == Ok(Request::Orders { readers, rounds }));
+    }
     assert!(rt;
         matches!(
             asked(alloc, "scan CommitLog-6-0.log")?,
@@ -118,7 +121,7 @@ fn the_other_commands_have_theirs(rt: HostRuntime) -> Result<(), Fail> {
     Ok(())
 }
 
-const OTHERS: [&str; 53] = [
+const OTHERS: [&str; 58] = [
     "",
     "aply",
     "help",
@@ -172,6 +175,11 @@ const OTHERS: [&str; 53] = [
     "drill -1 2",
     "drill 4294967296 1",
     "drill 1 1000001",
+    "orders 1",
+    "orders 1 2 3",
+    "orders 0 1",
+    "orders 64 1",
+    "orders 1 100001",
 ];
 
 #[test]

@@ -38,7 +38,9 @@ fn out_of_memory(rt: &HostRuntime) -> ExitCode {
 // The folder. What only reads takes no lock.
 fn disk_for(rt: HostRuntime, words: &[String]) -> FolderDisk<HostRuntime> {
     match parse_built(rt.alloc(), words) {
-        Ok(Built::Replay(_) | Built::Scan { .. }) => FolderDisk::for_reading(rt),
+        Ok(Built::Replay(_) | Built::Scan { .. } | Built::Orders { .. }) => {
+            FolderDisk::for_reading(rt)
+        }
         _ => FolderDisk::for_writing(rt),
     }
 }

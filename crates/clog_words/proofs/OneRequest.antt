@@ -1,54 +1,23 @@
 -- A list of words asks for one request at most.
-use Rattle.std.proofs.Common.{
-  ◌≡◌,
-  ℕ,
-  List,
-  [],
-  ◌∷◌,
-  get_or,
-  Bool,
-  Option,
-  Some,
-  None,
-  codes,
-  refl,
-  ap,
-  ap₂,
-  sym,
-  subst,
-  ◌∙◌,
-  arith,
-}
+use Rattle.std.proofs.Common.{◌≡◌, ℕ, List, [], ◌∷◌, get_or, Bool, Option, Some, None, codes, refl}
+use Rattle.std.proofs.Common.{ap, ap₂, sym, subst, ◌∙◌, arith}
 use Rattle.std.specs.Str.Parse.{digits_value}
 use Rattle.sync_core.specs.declared.SyncCore.{SyncCore}
 use Rattle.sync_core.specs.declared.SyncCore.TheVariants.{Batch, Periodic}
 use Rattle.clog_words.specs.Given.{Setting, said}
-use Rattle.clog_words.specs.Asks.{
-  Asks,
-  AsksScan,
-  AsksDrill,
-  SaysApply,
-  SaysReplay,
-  IsMark,
-  IsMode,
-  IsNumberIfSaid,
-  IsNumberOr,
-  IsSync,
-  IsValueWithin,
-}
+use Rattle.clog_words.specs.Asks.{Asks, AsksScan, AsksDrill, SaysApply, SaysReplay, IsMark, IsMode}
+use Rattle.clog_words.specs.Asks.{IsNumberIfSaid, IsNumberOr, IsSync, IsValueWithin}
+use Rattle.clog_words.specs.Orders.{AsksOrders}
 use Rattle.clog_words.specs.declared.request.ApplyOptions.{ApplyOptions}
 use Rattle.clog_words.specs.declared.request.ReplayOptions.{ReplayOptions}
 use Rattle.clog_words.specs.declared.request.Request.{Request}
 use Rattle.clog_words.specs.declared.request.Request.TheVariants.{Apply, Replay, Scan, Drill}
+use Rattle.clog_words.specs.declared.request.Request.TheVariants.{Orders}
 use Rattle.clog_words.proofs.SettingLists.{same_settings}
-use Rattle.clog_words.proofs.Refusals.{
-  apply_is_no_replay,
-  apply_is_no_scan,
-  apply_is_no_drill,
-  replay_is_no_scan,
-  replay_is_no_drill,
-  scan_is_no_drill,
-}
+use Rattle.clog_words.proofs.Refusals.{apply_is_no_replay, apply_is_no_scan, apply_is_no_drill}
+use Rattle.clog_words.proofs.Refusals.{replay_is_no_scan, replay_is_no_drill, scan_is_no_drill}
+use Rattle.clog_words.proofs.Refusals.{apply_is_no_orders, replay_is_no_orders, scan_is_no_orders}
+use Rattle.clog_words.proofs.Refusals.{drill_is_no_orders}
 
 -- ---- one option says one thing
 
@@ -173,6 +142,16 @@ one_drill words s t m n e f =
       e.count_is.value ∙ ap (λ l. digits_value 10 l) counts ∙ sym f.count_is.value,
     )
 
+one_orders : (words : List (List ℕ)) (s t m n : ℕ) → AsksOrders words s m → AsksOrders words t n
+    → (s ≡ t) × (m ≡ n)
+one_orders words s t m n e f =
+    let same = sym e.words_are ∙ f.words_are in
+    let readers = ap (λ l. get_or l 0 []) same in
+    let rounds = ap (λ l. get_or l 1 []) same in (
+      e.readers_is.value ∙ ap (λ l. digits_value 10 l) readers ∙ sym f.readers_is.value,
+      e.rounds_is.value ∙ ap (λ l. digits_value 10 l) rounds ∙ sym f.rounds_is.value,
+    )
+
 -- ---- the words
 
 one_asked : (command : List ℕ) (words : List (List ℕ)) (x y : Request) → Asks (command ∷ words) x
@@ -184,6 +163,7 @@ one_asked w ws (Apply x) (Apply y) (_, e) (_, f) =
 one_asked w ws (Apply x) (Replay y) (e, _) (f, _) = absurd (apply_is_no_replay w e f)
 one_asked w ws (Apply x) (Scan y) (e, _) (f, _) = absurd (apply_is_no_scan w e f)
 one_asked w ws (Apply x) (Drill t n) (e, _) (f, _) = absurd (apply_is_no_drill w e f)
+one_asked w ws (Apply x) (Orders r k) (e, _) (f, _) = absurd (apply_is_no_orders w e f)
 one_asked w ws (Replay x) (Apply y) (e, _) (f, _) = absurd (apply_is_no_replay w f e)
 one_asked w ws (Replay x) (Replay y) (_, e) (_, f) =
     let same = same_settings f.settings e.settings ws f.given.given e.given.given in
@@ -191,17 +171,27 @@ one_asked w ws (Replay x) (Replay y) (_, e) (_, f) =
     (one_replay e.settings x y e.says (subst (λ (l : List Setting). SaysReplay l y) same f.says))
 one_asked w ws (Replay x) (Scan y) (e, _) (f, _) = absurd (replay_is_no_scan w e f)
 one_asked w ws (Replay x) (Drill t n) (e, _) (f, _) = absurd (replay_is_no_drill w e f)
+one_asked w ws (Replay x) (Orders r k) (e, _) (f, _) = absurd (replay_is_no_orders w e f)
 one_asked w ws (Scan x) (Apply y) (e, _) (f, _) = absurd (apply_is_no_scan w f e)
 one_asked w ws (Scan x) (Replay y) (e, _) (f, _) = absurd (replay_is_no_scan w f e)
 one_asked w ws (Scan x) (Scan y) (_, e) (_, f) =
     ap (λ (name : List ℕ). Scan name) (one_scan ws x y e f)
 one_asked w ws (Scan x) (Drill t n) (e, _) (f, _) = absurd (scan_is_no_drill w e f)
+one_asked w ws (Scan x) (Orders r k) (e, _) (f, _) = absurd (scan_is_no_orders w e f)
 one_asked w ws (Drill s m) (Apply y) (e, _) (f, _) = absurd (apply_is_no_drill w f e)
 one_asked w ws (Drill s m) (Replay y) (e, _) (f, _) = absurd (replay_is_no_drill w f e)
 one_asked w ws (Drill s m) (Scan y) (e, _) (f, _) = absurd (scan_is_no_drill w f e)
 one_asked w ws (Drill s m) (Drill t n) (_, e) (_, f) =
     let same = one_drill ws s t m n e f in
     ap₂ (λ (seed count : ℕ). Drill seed count) same.0 same.1
+one_asked w ws (Drill s m) (Orders r k) (e, _) (f, _) = absurd (drill_is_no_orders w e f)
+one_asked w ws (Orders r k) (Apply y) (e, _) (f, _) = absurd (apply_is_no_orders w f e)
+one_asked w ws (Orders r k) (Replay y) (e, _) (f, _) = absurd (replay_is_no_orders w f e)
+one_asked w ws (Orders r k) (Scan y) (e, _) (f, _) = absurd (scan_is_no_orders w f e)
+one_asked w ws (Orders r k) (Drill t n) (e, _) (f, _) = absurd (drill_is_no_orders w f e)
+one_asked w ws (Orders r k) (Orders q l) (_, e) (_, f) =
+    let same = one_orders ws r q k l e f in
+    ap₂ (λ (readers rounds : ℕ). Orders readers rounds) same.0 same.1
 
 pub one_request : (words : List (List ℕ)) (x y : Request) → Asks words x → Asks words y → x ≡ y
 one_request [] x y e f = absurd e

@@ -1,33 +1,20 @@
 -- What the words after the program's name ask for: a list of words asks for one request at most.
-use Rattle.std.specs.Prelude.{
-  ◌≡◌,
-  ℕ,
-  List,
-  [],
-  ◌∷◌,
-  Bool,
-  true,
-  false,
-  Option,
-  Some,
-  None,
-  codes,
-}
+use Rattle.std.specs.Prelude.{◌≡◌, ℕ, List, [], ◌∷◌, Bool, true, false, Option, Some, None, codes}
 use Rattle.std.specs.Option.{IsSomeAnd}
 use Rattle.clog_spec.specs.Names.{IsSegmentName}
 use Rattle.sync_core.specs.declared.SyncCore.{SyncCore}
 use Rattle.sync_core.specs.declared.SyncCore.TheVariants.{Batch, Periodic}
 use Rattle.clog_words.specs.Given.{Setting, GivesOf, said}
 use Rattle.clog_words.specs.Numbers.{IsNumberWithin}
+use Rattle.clog_words.specs.Orders.{AsksOrders}
 use Rattle.clog_words.specs.declared.choices.Mode.{Mode}
-use Rattle.clog_words.specs.declared.choices.Mode.TheVariants.{
-  Batch as BatchMode,
-  Periodic as PeriodicMode,
-}
+use Rattle.clog_words.specs.declared.choices.Mode.TheVariants.{Batch as BatchMode}
+use Rattle.clog_words.specs.declared.choices.Mode.TheVariants.{Periodic as PeriodicMode}
 use Rattle.clog_words.specs.declared.request.ApplyOptions.{ApplyOptions}
 use Rattle.clog_words.specs.declared.request.ReplayOptions.{ReplayOptions}
 use Rattle.clog_words.specs.declared.request.Request.{Request}
 use Rattle.clog_words.specs.declared.request.Request.TheVariants.{Apply, Replay, Scan, Drill}
+use Rattle.clog_words.specs.declared.request.Request.TheVariants.{Orders}
 use Rattle.clog_words.specs.declared.request.WordsFault.{WordsFault}
 use Rattle.clog_words.specs.declared.request.WordsFault.TheVariants.{Usage, OutOfMemory}
 
@@ -130,6 +117,8 @@ Asks (command ∷ words) (Replay options) = (command ≡ codes "replay") × Asks
 Asks (command ∷ words) (Scan name) = (command ≡ codes "scan") × AsksScan words name
 Asks (command ∷ words) (Drill seed count) =
     (command ≡ codes "drill") × AsksDrill words seed count
+Asks (command ∷ words) (Orders readers rounds) =
+    (command ≡ codes "orders") × AsksOrders words readers rounds
 
 -- Want of memory says nothing of the words.
 abbrev pub OnUsage : WordsFault → Type 0 → Type 0

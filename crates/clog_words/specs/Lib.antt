@@ -3,3 +3,4 @@ pub mod Built
 pub mod Given
 pub mod Numbers
 pub mod Options
+pub mod Orders

@@ -29,6 +29,13 @@ pub enum Built {
         /// How many lines, 0 to 1000000.
         count: u32,
     },
+    /// `orders`: an owner publishes values while readers read them.
+    Orders {
+        /// How many readers there are, 1 to 63.
+        readers: u8,
+        /// How many values are published, and how many operations each reader makes: 0 to 100000.
+        rounds: u32,
+    },
 }
 
 fn scan(name: Name) -> Option<Built>
@@ -50,6 +57,7 @@ fn built_of(request: Request) -> Option<Built>
         Request::Replay(options) => Some(Built::Replay(options)),
         Request::Scan(name) => scan(name),
         Request::Drill { seed, count } => Some(Built::Drill { seed, count }),
+        Request::Orders { readers, rounds } => Some(Built::Orders { readers, rounds }),
     }
 }
 

@@ -5,22 +5,12 @@ ghost use Rattle.clog_spec.specs.Names.{IsSegmentName};
 ghost use Rattle.clog_words.specs.declared.request.ApplyOptions.{ApplyOptions as AskedApply};
 ghost use Rattle.clog_words.specs.declared.request.ReplayOptions.{ReplayOptions as AskedReplay};
 ghost use Rattle.clog_words.specs.declared.request.Request.{Request as Asked};
-ghost use Rattle.clog_words.specs.Asks.{
-  Asks,
-  AsksApply,
-  AsksReplay,
-  AsksScan,
-  AsksDrill,
-  OnUsage,
-  SaysApply,
-  SaysReplay,
-};
+ghost use Rattle.clog_words.specs.Asks.{Asks, AsksApply, AsksReplay, AsksScan, AsksDrill, OnUsage};
+ghost use Rattle.clog_words.specs.Asks.{SaysApply, SaysReplay};
 ghost use Rattle.clog_words.specs.Given.{Setting, texts};
-ghost use Rattle.clog_words.specs.Options.{
-  Tells,
-  apply_options as options_of_apply,
-  replay_options as options_of_replay,
-};
+ghost use Rattle.clog_words.specs.Orders.{AsksOrders};
+ghost use Rattle.clog_words.specs.Options.{Tells, apply_options as options_of_apply};
+ghost use Rattle.clog_words.specs.Options.{replay_options as options_of_replay};
 
 use crate::choices::{number_if_said, number_or, sync_of};
 use crate::number::number_within;
@@ -144,6 +134,23 @@ fn drill(words: &[String]) -> Option<(u32, u32)>
     Some((seed, count))
 }
 
+fn orders(words: &[String]) -> Option<(u8, u32)>
+    ensures { MatchOption result
+        ((readers rounds : ℕ) → ¬ AsksOrders (texts words.now) readers rounds)
+        (λ orders. AsksOrders (texts words.now) orders.0 orders.1) }
+{
+    let [readers_word, rounds_word] = words else {
+        return None;
+    };
+    let Some(readers) = number_within(readers_word.as_str(), 1, 63) else {
+        return None;
+    };
+    let Some(rounds) = number_within(rounds_word.as_str(), 0, 100_000) else {
+        return None;
+    };
+    Some((readers as u8, rounds))
+}
+
 fn request_of(alloc: Global, command: &str, words: &[String]) -> Result<Request, WordsFault>
     ensures { MatchResult result (Asks (command.now ∷ texts words.now))
         (λ fault. OnUsage fault
@@ -170,6 +177,12 @@ fn request_of(alloc: Global, command: &str, words: &[String]) -> Result<Request,
     if command == "drill" {
         return match drill(words) {
             Some((seed, count)) => Ok(Request::Drill { seed, count }),
+            None => Err(WordsFault::Usage),
+        };
+    }
+    if command == "orders" {
+        return match orders(words) {
+            Some((readers, rounds)) => Ok(Request::Orders { readers, rounds }),
             None => Err(WordsFault::Usage),
         };
     }

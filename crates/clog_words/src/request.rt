@@ -20,6 +20,13 @@ pub enum Request {
         /// How many lines, 0 to 1000000.
         count: u32,
     },
+    /// `orders`: an owner publishes values while readers read them.
+    Orders {
+        /// How many readers there are, 1 to 63.
+        readers: u8,
+        /// How many values are published, and how many operations each reader makes: 0 to 100000.
+        rounds: u32,
+    },
 }
 
 /// The options of `apply`.

@@ -1,19 +1,6 @@
-use Rattle.std.proofs.Common.{
-  ◌≡◌,
-  ℕ,
-  Bool,
-  Option,
-  arith,
-  inl,
-  length,
-  sym,
-  subst,
-  ap,
-  ◌∙◌,
-}
+use Rattle.std.proofs.Common.{◌≡◌, ℕ, Bool, Option, arith, inl, length, sym, subst, ap, ◌∙◌}
 use Rattle.clog_disk.specs.Files.{Files, SameTold, bytes_at}
 use Rattle.std.specs.Prelude.{is_some}
-use Rattle.path_flush.specs.declared.switch_answer.Row.TheVariants as row
 use Rattle.clog_writers.specs.Left.{LeavesShares, WritesShares, least_of}
 use Rattle.clog_writers.specs.Written.{HasShareCause}
 use Rattle.clog_base.proofs.Follows.{if_ok}
@@ -24,24 +11,10 @@ use Rattle.clog_engine.specs.Refusal.{HasRoomFor, folder_status}
 use Rattle.clog_engine.specs.Report.{IsReport, head_with}
 use Rattle.clog_engine.specs.Request.{AreSizesOf}
 use Rattle.clog_engine.proofs.Applied.{folder_refuses, left_closed, not_opened}
-use Rattle.clog_engine.proofs.Opened.{
-  could_open,
-  keeps_all,
-  lasts_first,
-  left_alone,
-  looked_alone,
-  others,
-  told_then,
-  turns_shares,
-  wrote,
-}
-use Rattle.clog_engine.proofs.SharesApplied.{
-  is_asked,
-  is_report,
-  ok_at,
-  shares_applied,
-  shares_call,
-}
+use Rattle.clog_engine.proofs.Opened.{could_open, keeps_all, lasts_first, left_alone, looked_alone}
+use Rattle.clog_engine.proofs.Opened.{others, told_then, turns_shares, wrote}
+use Rattle.clog_engine.proofs.SharesApplied.{is_asked, is_report, ok_at, shares_applied}
+use Rattle.clog_engine.proofs.SharesApplied.{shares_call}
 use Rattle.clog_engine.proofs.sharing.apply_shares.Goals as goal
 
 pub returns-in-Err-pending-clause-applies : goal.returns-in-Err-pending-clause-applies
@@ -127,7 +100,6 @@ returns-clause-applies g c left left_now f h ms planned =
     c.told.ensures lasts
     (subst (λ (n : ℕ). HasShareCause n (g.D.Disk.faults now) outcome)
     (opening.quiet ∙ c.in-Ok.ensures.quiet) done.cause)
-    (done.rows ms planned.plan)
     (λ receipts report is_ok text.
     let logged = ok_at outcome receipts _ is_ok (done.receipts ms planned.plan) in
     let is : IsReport options.dump (head_with options.receipts receipts.items) before ms report =
@@ -152,11 +124,6 @@ returns-clause-applies g c left left_now f h ms planned =
           (done.written ms options then made planned.plan asked files_are changes_are)),
     ))
 
-pub told-requires-clause-ungrouped : goal.told-requires-clause-ungrouped
-told-requires-clause-ungrouped g c made is =
-    let planned = c.requires.planned in
-    c.write_plan-disk.ensures.rows planned.0 planned.1.plan row.WriteGroups made is
-
 pub told-requires-clause-room : goal.told-requires-clause-room
 told-requires-clause-room g c =
     let pending = c.in-Ok-pending.pending in
@@ -172,3 +139,6 @@ pub returns-clause-called : goal.returns-clause-called
 returns-clause-called g c =
     shares_call c.args.options.receipts c.in-Ok-pending.pending c.write_plan-disk.result.1
     c.told.result c.told.ensures
+
+pub write_plan-disk-requires-clause-some : goal.write_plan-disk-requires-clause-some
+write_plan-disk-requires-clause-some g c = λ _ _. c.requires.doable.some_updates

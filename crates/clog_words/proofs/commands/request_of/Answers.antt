@@ -5,16 +5,10 @@ use Rattle.clog_words.specs.Given.{texts}
 use Rattle.clog_words.specs.declared.request.ApplyOptions.{ApplyOptions}
 use Rattle.clog_words.specs.declared.request.ReplayOptions.{ReplayOptions}
 use Rattle.clog_words.specs.declared.request.Request.{Request}
-use Rattle.clog_words.proofs.Refusals.{
-  on_usage,
-  nothing_asked,
-  apply_is_no_replay,
-  apply_is_no_scan,
-  apply_is_no_drill,
-  replay_is_no_scan,
-  replay_is_no_drill,
-  scan_is_no_drill,
-}
+use Rattle.clog_words.proofs.Refusals.{on_usage, nothing_asked, apply_is_no_replay}
+use Rattle.clog_words.proofs.Refusals.{apply_is_no_scan, apply_is_no_drill, replay_is_no_scan}
+use Rattle.clog_words.proofs.Refusals.{replay_is_no_drill, scan_is_no_drill, apply_is_no_orders}
+use Rattle.clog_words.proofs.Refusals.{replay_is_no_orders, scan_is_no_orders, drill_is_no_orders}
 use Rattle.clog_words.proofs.commands.request_of.Goals as goal
 
 pub returns-in-Err : goal.returns-in-Err
@@ -26,7 +20,8 @@ returns-in-Err c =
     ((request : Request) → ¬ Asks (word ∷ words) request)
     (λ none. nothing_asked word words (λ _. none)
     (λ e _ _. apply_is_no_replay word is e) (λ e _ _. apply_is_no_scan word is e)
-    (λ e _ _ _. apply_is_no_drill word is e))
+    (λ e _ _ _. apply_is_no_drill word is e)
+    (λ e _ _ _. apply_is_no_orders word is e))
     c.in-Err.ensures
 
 pub returns-in-Err-replay : goal.returns-in-Err-replay
@@ -37,7 +32,8 @@ returns-in-Err-replay c =
     on_usage c.in-Err-replay.fault ((options : ReplayOptions) → ¬ AsksReplay words options)
     ((request : Request) → ¬ Asks (word ∷ words) request)
     (λ none. nothing_asked word words (λ e _ _. apply_is_no_replay word e is) (λ _. none)
-    (λ e _ _. replay_is_no_scan word is e) (λ e _ _ _. replay_is_no_drill word is e))
+    (λ e _ _. replay_is_no_scan word is e) (λ e _ _ _. replay_is_no_drill word is e)
+    (λ e _ _ _. replay_is_no_orders word is e))
     c.in-Err-replay.ensures
 
 pub returns-in-None : goal.returns-in-None
@@ -46,7 +42,7 @@ returns-in-None c =
     let is = (bytes_eq-Decides word (codes "scan")).0 (sym c.if-eq-3.ensures) in
     nothing_asked word (texts c.args.words.now) (λ e _ _. apply_is_no_scan word e is)
     (λ e _ _. replay_is_no_scan word e is) (λ _. c.in-None.ensures)
-    (λ e _ _ _. scan_is_no_drill word is e)
+    (λ e _ _ _. scan_is_no_drill word is e) (λ e _ _ _. scan_is_no_orders word is e)
 
 pub returns-in-None-drill : goal.returns-in-None-drill
 returns-in-None-drill c =
@@ -54,4 +50,12 @@ returns-in-None-drill c =
     let is = (bytes_eq-Decides word (codes "drill")).0 (sym c.if-eq-4.ensures) in
     nothing_asked word (texts c.args.words.now) (λ e _ _. apply_is_no_drill word e is)
     (λ e _ _. replay_is_no_drill word e is) (λ e _ _. scan_is_no_drill word e is)
-    (λ _. c.in-None-drill.ensures)
+    (λ _. c.in-None-drill.ensures) (λ e _ _ _. drill_is_no_orders word is e)
+
+pub returns-in-None-orders : goal.returns-in-None-orders
+returns-in-None-orders c =
+    let word = c.args.command.now in
+    let is = (bytes_eq-Decides word (codes "orders")).0 (sym c.if-eq-5.ensures) in
+    nothing_asked word (texts c.args.words.now) (λ e _ _. apply_is_no_orders word e is)
+    (λ e _ _. replay_is_no_orders word e is) (λ e _ _. scan_is_no_orders word e is)
+    (λ e _ _ _. drill_is_no_orders word e is) (λ _. c.in-None-orders.ensures)
