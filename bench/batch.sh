@@ -1,21 +1,16 @@
 #!/bin/sh
-# Time a line of `apply --sync batch` by 1, 8 and 64 writers, each the least of three runs, and how
-# many lines one sync has made lasting there, by the sections of the segments as `scan` lists them.
-# Beside them what 60 bytes and their sync take on the same device, by dd. Needs a built program.
-# No part of the gate.
+# Time a line of `apply --sync batch` by 1, 8 and 64 writers, on the clock and of all processors
+# together, each the least of five runs by the clock, and how many lines one sync has made lasting
+# there, by the sections of the segments as `scan` lists them. Beside them what 60 bytes and their
+# sync take on the same device, by dd. Then the same by 8 and 64 writers beside three processes that
+# keep a processor busy each. Needs GNU time and a built program. No part of the gate.
+#
+#     batch.sh [PROGRAM ..]      several programs, as before and after a change, take turns
 set -e
 top=$(cd "$(dirname "$0")/.." && pwd)
 . "$top/bench/setup.sh"
-
+programs=${*:-$program}
 count=2000
-
-# The microseconds that a command takes.
-micros() {
-    start=$(date +%s%N)
-    "$@"
-    end=$(date +%s%N)
-    echo $(((end - start) / 1000))
-}
 
 # How many sections the segments of the folder have: each begins behind a marker, so not where the
 # entry before it ends.
@@ -26,24 +21,57 @@ sections() {
             END { print sections }'
 }
 
-synced_writes() {
+# The microseconds that 60 bytes and their sync take.
+synced_write() {
+    start=$(date +%s%N)
     dd if="$work/zeros" of="$work/synced" bs=60 oflag=dsync 2>/dev/null
+    end=$(date +%s%N)
+    echo $(((end - start) / 1000 / count))
 }
 
-apply() { "$program" apply --sync batch --writers "$1" <"$work/lines" >"$work/out"; }
-
+# The microseconds of a run, those of all processors, and its sections.
 run() {
     rm -rf "$work/run"
     mkdir "$work/run"
     cd "$work/run"
-    echo "$(micros apply "$1") $(sections)"
+    start=$(date +%s%N)
+    /usr/bin/time -f '%U %S' -o "$work/time" "$1" apply --sync batch --writers "$2" \
+        <"$work/lines" >"$work/out"
+    end=$(date +%s%N)
+    echo "$(((end - start) / 1000)) $(awk '{ print 1e6 * ($1 + $2) }' "$work/time") $(sections)"
+}
+
+# One line for each program, of its best run; the programs take turns.
+measure() {
+    rm -f "$work"/best.*
+    for again in 1 2 3 4 5; do
+        at=0
+        for measured in $programs; do
+            at=$((at + 1))
+            run "$measured" "$1" >>"$work/best.$at"
+        done
+    done
+    at=0
+    for measured in $programs; do
+        at=$((at + 1))
+        sort -n "$work/best.$at" | head -n 1 | awk -v n=$count -v w="$1" -v at=$at -v what="$2" '
+            { printf "%2d writers%s, program %d: %4.0f us a line, %4.0f of processors, " \
+                "%4.1f lines a sync\n", w, what, at, $1 / n, $2 / n, n / $3 }'
+    done
 }
 
 head -c $((60 * count)) /dev/zero >"$work/zeros"
 lines $count >"$work/lines"
 for writers in 1 8 64; do
-    micros synced_writes | awk -v n=$count '{ printf "60 bytes and a sync: %.0f us, ", $1 / n }'
-    for again in 1 2 3; do run $writers; done | sort -n | head -n 1 |
-        awk -v n=$count -v w=$writers '
-            { printf "%2d writers: %4.0f us a line, %4.1f lines a sync\n", w, $1 / n, n / $2 }'
+    echo "60 bytes and a sync: $(synced_write) us"
+    measure $writers ''
+done
+busy=
+for each in 1 2 3; do
+    while :; do :; done &
+    busy="$busy $!"
+done
+trap 'kill $busy; rm -rf "$work"' EXIT
+for writers in 8 64; do
+    measure $writers ' beside three busy processes'
 done

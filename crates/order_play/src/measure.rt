@@ -1,10 +1,10 @@
 //! What an operation of a reader takes, beside a mutex and a read-write lock around the same value,
-//! and what a publication takes.
+//! what a publication takes, and what both take beside one another.
 ghost use Rattle.std.specs.Prelude.{◌≤◌};
 
 use anyhow::{Result, bail};
 use op_order::OpOrder;
-use order_run::{PLACES, Products, publish_all, read_all};
+use order_run::{PLACES, Products, publish_all, read_all, run_orders};
 use std::alloc::Global;
 use std::rt::Clock;
 use std::sync::{Mutex, RwLock, Wait};
@@ -88,6 +88,53 @@ fn by_owner<R: Wait + Clock>(rt: &R, alloc: Global) -> Result<u128> {
     Ok(each(begin.elapsed(rt)?))
 }
 
+// Readers beside the owner, each with as many rounds: what one round of them all takes.
+fn beside_owner<R: Threads + Wait + Clock + Sync>(
+    rt: &R,
+    alloc: Global,
+    readers: u8,
+) -> Result<u128>
+    requires { (1 ≤ readers) × (readers ≤ 63) }
+{
+    let begin = Instant::now(rt)?;
+    if run_orders(rt, alloc, readers, ROUNDS).is_err() {
+        bail!("out of memory");
+    }
+    Ok(each(begin.elapsed(rt)?))
+}
+
+fn write_lock<R: Wait>(rt: &R, lock: &RwLock<u64>) {
+    for round in 0..ROUNDS {
+        *lock.write(rt) = u64::from(round);
+    }
+}
+
+// The same of a lock that one thread writes.
+fn beside_writer<R: Threads + Wait + Clock + Sync>(
+    rt: &R,
+    alloc: Global,
+    readers: u8,
+) -> Result<u128> {
+    let lock = RwLock::new(1_u64);
+    let mut sums = Vec::from_elem(alloc, 0_u64, usize::from(readers))?;
+    let begin = Instant::now(rt)?;
+    thread::join(
+        rt,
+        || write_lock(rt, &lock),
+        || {
+            thread::for_each_mut(
+                rt,
+                sums.as_mut_slice(),
+                4,
+                &|_, sum| {
+                    *sum = read_lock(rt, &lock);
+                },
+            );
+        },
+    );
+    Ok(each(begin.elapsed(rt)?))
+}
+
 /// Prints the figures, in nanoseconds.
 pub(crate) fn measure<R: Threads + Wait + Clock + Print + Sync>(
     rt: &R,
@@ -105,5 +152,12 @@ pub(crate) fn measure<R: Threads + Wait + Clock + Print + Sync>(
         "a publication, with what it takes back: {} ns",
         by_owner(rt, alloc)?
     )?;
+    for readers in 1..=3 {
+        let owner = beside_owner(rt, alloc, readers)?;
+        let writer = beside_writer(rt, alloc, readers)?;
+        println!(rt;
+            "{readers} readers beside an owner: {owner} ns; beside a lock's writer {writer}"
+        )?;
+    }
     Ok(())
 }
