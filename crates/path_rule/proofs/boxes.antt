@@ -19,8 +19,7 @@ pub mod OtherBoxes
 pub mod InItsBox
 pub mod TurnHeld
 pub mod ReadsStay
-pub mod AboveBound
 pub mod MemtableReads
-pub mod MemtableTrimmed
+pub mod MemtableBack
 pub mod SeenInterval
 pub mod OneInHand

@@ -19,6 +19,7 @@ pub mod WriteBarriers
 pub mod MarkerSteps
 pub mod SyncFacts
 pub mod SyncSteps
+pub mod RetiredBoxes
 pub mod FilingFacts
 pub mod FiledLooks
 pub mod NotedSteps

@@ -67,7 +67,7 @@ looked w t n = record { event = Look w (Newest t); found = n; filed = None }
 abbrev pub put_there : Table → ℕ → EntryNote → Placed
 put_there t m note = record { table = t.0; entry = note.end.0; memtable = m }
 
--- Seat w put the note into its box of the table and of memtables of this parity, which it took and
+-- Seat w put the note into its box of the table and of this memtable's place, which it took and
 -- gave back at two looks at the table's newest memtable. Else all is as it was.
 pub record PutsNote (v : View) (w : ℕ) (t : Table) (m : ℕ) (note : EntryNote)
     (after : View) : Type 0 where

@@ -2,8 +2,8 @@
 --
 -- Box 0 is the desk of the Sync turn. Behind it each seat has two boxes for the entries that it
 -- deposits: one for the even and one for the odd groups of the append order. Behind these each seat
--- has two boxes for each of sixteen tables, for what it put into the table's memtables: one for the
--- even and one for the odd ones.
+-- has four boxes for each of sixteen tables, for what it put into the table's memtables: one for
+-- each place of their ring.
 use Rattle.std.specs.Prelude.{
   ◌≡◌,
   ℕ,
@@ -46,13 +46,13 @@ box_of w g = 1 + 2 * w + g % 2
 abbrev pub boxes : ℕ → ℕ
 boxes seats = 1 + 2 * seats
 
--- the box of a seat for a table and a memtable's parity
+-- the box of a seat for a table and a memtable's place
 abbrev pub memtable_box : ℕ → ℕ → ℕ → ℕ → ℕ
-memtable_box seats w t m = 1 + 2 * seats + 32 * w + 2 * t + m % 2
+memtable_box seats w t m = 1 + 2 * seats + 64 * w + 4 * t + m % 4
 
 -- how many boxes there are in all
 abbrev pub all_boxes : ℕ → ℕ
-all_boxes seats = 1 + 34 * seats
+all_boxes seats = 1 + 66 * seats
 
 -- Which boxes a seat has is told by its view: its own one while it is in a group of the append
 -- order, the desk while it holds the Sync turn, and the one of another seat that it took.

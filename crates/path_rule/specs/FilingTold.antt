@@ -47,10 +47,11 @@ abbrev pub FoundFinal : ℕ → Seat → ℕ → ℕ → Type 0
 FoundFinal t p m bound = (seat_table p t).bound
     ≡ Some (record { memtable = m; bound = Final (record { 0 = bound }) })
 
--- It has seen the boxes of all seats of a memtable, and has none of them in hand.
+-- It has seen the boxes of all seats of a memtable that is not retired, and has none of them in
+-- hand.
 abbrev pub SeesAll : ℕ → Hands → ℕ → ℕ → FlushRead → Type 0
 SeesAll seats h t m q = (h.reading ≡ Some q) × (q.table ≡ t) × (q.memtable ≡ m)
-    × (q.taken ≡ None) × (q.seen_to ≡ seats)
+    × (q.taken ≡ None) × (q.seen_to ≡ seats) × (q.retired ≡ false)
 
 -- these are the newest cells of a table in what it has seen
 abbrev pub AreSeen : FlushRead → ℕ → List (CellKey × Cell) → Type 0

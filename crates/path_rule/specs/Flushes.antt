@@ -1,14 +1,14 @@
 -- The holder of a table's Flush turn reads what lies in the boxes of a memtable behind its barrier.
-use Rattle.std.specs.Prelude.{◌≡◌, ℕ, zero, suc, ◌+◌, ◌*◌, ◌%◌, ◌<◌, List, [], ◌∷◌, Some, None}
+-- Before that it empties those of the memtable below, which is retired.
+use Rattle.std.specs.Prelude.{◌≡◌, ℕ, zero, suc, ◌+◌, ◌*◌, ◌<◌, true, false, List, [], ◌∷◌, Some}
+use Rattle.std.specs.Prelude.{None}
 use Rattle.std.specs.List.{Contains}
 use Rattle.atomic_table.specs.Table.{Me, Step, rest}
 use Rattle.clog_base.specs.declared.cell.Table.{Table}
 use Rattle.path_core.specs.declared.event.Cursor.TheVariants.{OldestLive}
 use Rattle.path_core.specs.declared.event.Event.TheVariants.{Look, Put}
-use Rattle.path_core.specs.declared.event.Place.{Place}
-use Rattle.path_core.specs.declared.event.Place.TheVariants.{Bound, Newest}
+use Rattle.path_core.specs.declared.event.Place.TheVariants.{Newest}
 use Rattle.path_core.specs.declared.note.EntryNote.{EntryNote}
-use Rattle.path_core.specs.declared.state.Bound.TheVariants.{Final}
 use Rattle.path_core.specs.Whole.{IsWhole}
 use Rattle.path_rule.specs.declared.slot.Slot.{Slot}
 use Rattle.path_rule.specs.declared.view.FlushRead.{FlushRead}
@@ -17,21 +17,10 @@ use Rattle.path_rule.specs.declared.view.Role.TheVariants.{Steps}
 use Rattle.path_rule.specs.declared.view.View.{View}
 use Rattle.path_rule.specs.Boxes.{memtable_box, NotesAre}
 use Rattle.path_rule.specs.HandsAfter.{box_read, box_seen, first_read, with_reading}
-use Rattle.path_rule.specs.Layout.{bound_word}
 use Rattle.path_rule.specs.Retires.{RetiresEmptyIn}
 use Rattle.path_rule.specs.Rule.{Was}
-use Rattle.path_rule.specs.Switches.{FlushOldest}
+use Rattle.path_rule.specs.Switches.{FlushOldest, MayBeginRead}
 use Rattle.path_rule.specs.Told.{MadeAs}
-
--- Where a reader looks up the key above which the interval of a memtable begins: the bound of the
--- memtable below, where there is one. That is final at the key.
-abbrev pub place_below : Table → ℕ → Place
-place_below t zero = Newest t
-place_below t (suc k) = Bound t k
-
-abbrev pub BeginsAbove : ℕ → ℕ → ℕ → Type 0
-BeginsAbove zero found above = above ≡ 0
-BeginsAbove (suc k) found above = found ≡ bound_word (Final (record { 0 = above }))
 
 -- it has no box in hand to read it
 abbrev pub TakesNone : Hands → Type 0
@@ -45,10 +34,16 @@ next_box seats q = memtable_box seats q.seen_to q.table q.memtable
 abbrev pub MayRead : ℕ → Hands → ℕ → FlushRead → Type 0
 MayRead seats h t q = (h.reading ≡ Some q) × (q.table ≡ t) × (q.taken ≡ None) × (q.seen_to < seats)
 
--- It has seen the boxes of all seats of a memtable, and nothing lay in them that was placed there.
+-- It has seen the boxes of all seats of a memtable that is not retired, and nothing lay in them.
 abbrev pub SeesNone : ℕ → Hands → ℕ → ℕ → Type 0
 SeesNone seats h t m = (q : FlushRead) × (h.reading ≡ Some q) × (q.table ≡ t) × (q.memtable ≡ m)
-    × (q.taken ≡ None) × (q.seen_to ≡ seats) × (q.seen ≡ [])
+    × (q.taken ≡ None) × (q.seen_to ≡ seats) × (q.seen ≡ []) × (q.retired ≡ false)
+
+-- It may read the first memtable; or it has emptied the boxes of the one below, which is retired.
+abbrev pub HasEmptied : ℕ → View → ℕ → ℕ → Type 0
+HasEmptied seats v t zero = MayBeginRead t v 0 × TakesNone v.hands
+HasEmptied seats v t (suc k) = (q : FlushRead) × (v.hands.reading ≡ Some q) × (q.table ≡ t)
+    × (q.memtable ≡ k) × (q.taken ≡ None) × (q.seen_to ≡ seats) × (q.retired ≡ true)
 
 module _ {K : Type 0} where
   -- the box came, with these notes in it, each of which is whole
@@ -56,22 +51,19 @@ module _ {K : Type 0} where
   TookRead b held m m' = (y : Slot K) × (m'.1 ≡ (b, y) ∷ m.1) × NotesAre y held
       × ((n : EntryNote) → Contains held n → IsWhole n)
 
-  -- At a look at the newest memtable of a table its first one is read from now on.
-  abbrev pub FirstBegun : Step (Slot K) → Me (Slot K) View → ℕ → Me (Slot K) View → Type 0
-  FirstBegun st m n m' = (w : ℕ) (t : Table) → m.0.role ≡ Steps w → t.0 < 16
-      → st.word ≡ 8 + 4 * t.0
-      → MadeAs w (Look w (Newest t)) n (with_reading (Some (first_read t.0 0 0)) m.0.hands) m.0 m'.0
-      × (m'.1 ≡ m.1)
+  -- At a look at the newest memtable of a table the least that is not retired is read from now on.
+  abbrev pub ReadBegun : Step (Slot K) → Me (Slot K) View → ℕ → Me (Slot K) View → Type 0
+  ReadBegun st m n m' = (w k : ℕ) (t : Table) → m.0.role ≡ Steps w → t.0 < 16
+      → st.word ≡ 8 + 4 * t.0 → FlushOldest t.0 m.0.part k
+      → MadeAs w (Look w (Newest t)) n (with_reading (Some (first_read t.0 k false)) m.0.hands) m.0
+      m'.0 × (m'.1 ≡ m.1)
 
-  -- At a look at the bound of a memtable that is retired, which is final at a key, the next one is
-  -- read from now on: its interval begins above that key.
-  abbrev pub NextBegun : Step (Slot K) → Me (Slot K) View → ℕ → Me (Slot K) View → Type 0
-  NextBegun st m n m' = (w k : ℕ) (t : Table) → m.0.role ≡ Steps w → t.0 < 16
-      → FlushOldest t.0 m.0.part (suc k) → st.word ≡ 136 + 16 * (k % 4) + t.0
-      → (above : ℕ) × (n ≡ bound_word (Final (record { 0 = above })))
-      × MadeAs w (Look w (Bound t k)) n
-      (with_reading (Some (first_read t.0 (suc k) above)) m.0.hands) m.0 m'.0
-      × (m'.1 ≡ m.1)
+  -- the last retired one is, and its boxes are emptied
+  abbrev pub EmptyingBegun : Step (Slot K) → Me (Slot K) View → ℕ → Me (Slot K) View → Type 0
+  EmptyingBegun st m n m' = (w k : ℕ) (t : Table) → m.0.role ≡ Steps w → t.0 < 16
+      → st.word ≡ 8 + 4 * t.0 → FlushOldest t.0 m.0.part (suc k)
+      → MadeAs w (Look w (Newest t)) n (with_reading (Some (first_read t.0 k true)) m.0.hands) m.0
+      m'.0 × (m'.1 ≡ m.1)
 
   -- no memtable is read any more
   abbrev pub ReadEnded : Step (Slot K) → Me (Slot K) View → ℕ → Me (Slot K) View → Type 0
@@ -87,7 +79,7 @@ module _ {K : Type 0} where
       (with_reading (Some (box_read (next_box m.0.size.seats q) held q)) m.0.hands) m.0 m'.0
       × TookRead (next_box m.0.size.seats q) held m m'
 
-  -- it went home, trimmed or as it was, and what it held of the memtable was seen
+  -- it went home, empty or as it was, and what it held was seen
   abbrev pub ReadGiven : Step (Slot K) → Me (Slot K) View → ℕ → Me (Slot K) View → Type 0
   ReadGiven st m n m' = (w : ℕ) (t : Table) (q : FlushRead) → m.0.role ≡ Steps w → t.0 < 16
       → st.word ≡ 8 + 4 * t.0 → m.0.hands.reading ≡ Some q

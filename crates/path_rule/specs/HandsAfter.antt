@@ -5,6 +5,8 @@ use Rattle.std.specs.Prelude.{
   suc,
   ◌==◌,
   ◌||◌,
+  Bool,
+  cond,
   false,
   List,
   [],
@@ -14,7 +16,6 @@ use Rattle.std.specs.Prelude.{
   Some,
   None,
 }
-use Rattle.std.specs.List.{filter}
 use Rattle.std.specs.Option.{option_map}
 use Rattle.path_core.specs.declared.note.EntryNote.{EntryNote}
 use Rattle.path_core.specs.declared.seat.LastMarker.{LastMarker}
@@ -23,7 +24,6 @@ use Rattle.path_rule.specs.declared.lasting.Lasting.{Lasting}
 use Rattle.path_rule.specs.declared.view.FlushRead.{FlushRead}
 use Rattle.path_rule.specs.declared.view.Hands.{Hands}
 use Rattle.path_rule.specs.declared.view.Progress.{Progress}
-use Rattle.path_rule.specs.Trimmed.{ends_above}
 
 -- these notes are in its own box
 abbrev pub with_notes : List EntryNote → Hands → Hands
@@ -89,26 +89,30 @@ with_applied a h = record h { memtable_box = None; held = []; applied = a ∷ h.
 abbrev pub with_reading : Option FlushRead → Hands → Hands
 with_reading q h = record h { reading = q }
 
--- nothing of the memtable is read yet, whose interval begins above a key
-abbrev pub first_read : ℕ → ℕ → ℕ → FlushRead
-first_read t m above = record {
+-- nothing of the memtable is read yet, which is retired or not
+abbrev pub first_read : ℕ → ℕ → Bool → FlushRead
+first_read t m retired = record {
   table = t;
   memtable = m;
+  retired = retired;
   seen = [];
   seen_to = 0;
   taken = None;
   held = [];
-  above = above;
 }
 
 -- the box of the next seat was taken, with these notes in it
 abbrev pub box_read : ℕ → List EntryNote → FlushRead → FlushRead
 box_read b held q = record q { taken = Some b; held = held }
 
--- it is at home again, and what it held of the memtable was seen
+-- what is left in it when it goes home: nothing of a retired memtable
+abbrev pub left_in : FlushRead → List EntryNote
+left_in q = cond q.retired [] q.held
+
+-- it is at home again, and what it held was seen
 abbrev pub box_seen : FlushRead → FlushRead
 box_seen q = record q {
-  seen = q.seen ++ filter (ends_above q.above) q.held;
+  seen = q.seen ++ q.held;
   seen_to = suc q.seen_to;
   taken = None;
   held = [];

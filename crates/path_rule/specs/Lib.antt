@@ -17,7 +17,6 @@ pub mod TrailRows
 pub mod Trails
 pub mod Issued
 pub mod Rule
-pub mod Trimmed
 pub mod HandsAfter
 pub mod Turns
 pub mod Accepted

@@ -1,15 +1,20 @@
--- What the boxes of memtables hold. Each writer has one for each table and each parity of a
--- memtable: there lie the entries that it put into such memtables. What closed writes placed in a
--- memtable that is not retired is all there.
+-- What the boxes of memtables hold. Each writer has one for each table and each place of a
+-- memtable: there lie the entries that it put into the memtable that has the place. What closed
+-- writes placed in a memtable that is not retired is all there. What they placed in the last
+-- retired one may be; of those before it nothing is left.
 use Rattle.std.specs.Prelude.{
   ◌≡◌,
   ◌⊎◌,
   ℕ,
+  suc,
   ◌%◌,
   ◌<◌,
   ◌≤◌,
   get_or,
+  true,
+  false,
   List,
+  [],
   Some,
   None,
   IsTrue,
@@ -57,18 +62,23 @@ IsHome views b = (j : ℕ) (v : View) → get_elem? views j ≡ some v → ¬ Ha
 abbrev pub LiesAmong : List EntryNote → ℕ → Type 0
 LiesAmong notes entry = (n : EntryNote) × Contains notes n × (n.end.0 ≡ entry)
 
--- The seat put the entry that ends at a key into its box of the table and of memtables of this
--- parity.
+-- The seat put the entry that ends at a key into its box of the table and of this memtable's place.
 pub record HasPut (h : Hands) (t m entry : ℕ) : Type 0 where
   pub put : Placed
   pub among : Contains h.applied put
   pub table : put.table ≡ t
-  pub parity : put.memtable % 2 ≡ m % 2
+  pub ring : put.memtable % 4 ≡ m % 4
   pub ends : put.entry ≡ entry
 
 -- What the seat put into boxes of memtables are notes.
 abbrev pub PutNotes : List EntryNote → Hands → Type 0
 PutNotes notes h = (a : Placed) → Contains h.applied a → LiesAmong notes a.entry
+
+-- The box of seat z for memtable k was emptied by a seat that reads this: it drops what k holds,
+-- which is retired, and has come so far; or it reads the next one, behind that.
+abbrev pub IsEmptied : ℕ → FlushRead → ℕ → ℕ → Type 0
+IsEmptied seats q z k = ((q.retired ≡ true) × (q.memtable ≡ k) × (z < q.seen_to))
+    ⊎ ((q.retired ≡ false) × (q.memtable ≡ suc k) × (z < seats))
 
 -- What seat w knows of its boxes of memtables is so.
 pub record PutsAre (contents : ℕ → List EntryNote) (seats w : ℕ) (p : Seat) (h : Hands)
@@ -93,6 +103,9 @@ pub record PutsAre (contents : ℕ → List EntryNote) (seats w : ℕ) (p : Seat
   -- one that it reads holds what it held when it was taken
   pub reads : (q : FlushRead) (b : ℕ) → h.reading ≡ Some q → q.taken ≡ Some b
       → q.held ≡ contents b
+  -- and those that it emptied are empty
+  pub emptied : (q : FlushRead) (z k : ℕ) → h.reading ≡ Some q → IsEmptied seats q z k
+      → contents (memtable_box seats z q.table k) ≡ []
 
 abbrev pub PutsAs : (ℕ → List EntryNote) → ℕ → Seat → Hands → Role → Type 0
 PutsAs contents seats p h (Steps w) = PutsAre contents seats w p h
@@ -116,11 +129,14 @@ pub record IsPut (contents : ℕ → List EntryNote) (seats : ℕ) (p : Placed) 
 abbrev pub IsKeptAt : List TableState → Placed → Type 0
 IsKeptAt tables p = (get_or tables p.table fresh_table).oldest_live ≤ p.memtable
 
--- The entry of a position was placed in a memtable of this parity.
-pub record IsPlacedIn (placed : List Placed) (t m entry : ℕ) : Type 0 where
+-- The entry of a position was placed in a memtable of this one's place, which is the last retired
+-- one of the table, or not retired.
+pub record IsPlacedIn (placed : List Placed) (tables : List TableState) (t m entry : ℕ)
+    : Type 0 where
   pub memtable : ℕ
-  pub parity : memtable % 2 ≡ m % 2
+  pub ring : memtable % 4 ≡ m % 4
   pub among : Contains placed (record { table = t; entry = entry; memtable = memtable })
+  pub late : (get_or tables t fresh_table).oldest_live ≤ suc memtable
 
 -- Seat w runs the write of an entry.
 pub record IsRunning (views : List View) (w entry : ℕ) : Type 0 where
@@ -149,11 +165,13 @@ pub record HasMemtables {K : Type 0} (seats : ℕ) (notes : List EntryNote) (pla
   -- what lies in a box belongs there
   pub sound : (w t m : ℕ) (n : EntryNote) → t < 16
       → Contains (contents (memtable_box seats w t m)) n → IsOfBox notes w t n
-  -- it was placed in a memtable of this parity, or is of the seat's running write
+  -- it was placed in the memtable that has the place, or is of the seat's running write
   pub settled : (w t m : ℕ) (n : EntryNote) → t < 16
       → Contains (contents (memtable_box seats w t m)) n
-      → IsPlacedIn placed t m n.end.0 ⊎ IsRunning views w n.end.0
+      → IsPlacedIn placed tables t m n.end.0 ⊎ IsRunning views w n.end.0
   -- and lies there once
   pub once : (k b : ℕ) → count_by (is_note_at k) (contents b) ≤ 1
+  -- it lies in a box that there is
+  pub within : (b : ℕ) (n : EntryNote) → Contains (contents b) n → b < all_boxes seats
   -- what a seat put into them are notes, also of writes that are closed
   pub noted : (j : ℕ) (v : View) → get_elem? views j ≡ some v → PutNotes notes v.hands

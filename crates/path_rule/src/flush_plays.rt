@@ -4,26 +4,26 @@ use crate::view::View;
 use atomic_table::Play;
 use std::marker::PhantomData;
 
-/// The first memtable of a table is read from now on.
-pub struct BeginFirst<K> {
+/// The boxes of the last retired memtable of a table are emptied from now on.
+pub struct BeginEmptying<K> {
     keeper: PhantomData<K>,
 }
 
-impl<K> Play<Slot<K>, View> for BeginFirst<K> {
-    ghost use Rattle.path_rule.specs.Flushes.{FirstBegun};
+impl<K> Play<Slot<K>, View> for BeginEmptying<K> {
+    ghost use Rattle.path_rule.specs.Flushes.{EmptyingBegun};
 
-    ghost then = { FirstBegun };
+    ghost then = { EmptyingBegun };
 }
 
-/// The memtable behind a retired one is.
-pub struct BeginNext<K> {
+/// The least memtable that is not retired is read from now on.
+pub struct BeginRead<K> {
     keeper: PhantomData<K>,
 }
 
-impl<K> Play<Slot<K>, View> for BeginNext<K> {
-    ghost use Rattle.path_rule.specs.Flushes.{NextBegun};
+impl<K> Play<Slot<K>, View> for BeginRead<K> {
+    ghost use Rattle.path_rule.specs.Flushes.{ReadBegun};
 
-    ghost then = { NextBegun };
+    ghost then = { ReadBegun };
 }
 
 /// The box of the next seat is taken.
@@ -37,7 +37,7 @@ impl<K> Play<Slot<K>, View> for TakeRead<K> {
     ghost then = { ReadTaken };
 }
 
-/// It is given back, without what a retired memtable left there.
+/// It is given back: empty, where the memtable is retired.
 pub struct GiveRead<K> {
     keeper: PhantomData<K>,
 }

@@ -4,6 +4,7 @@ ghost use Rattle.std.specs.Prelude.{
   ◌≡◌,
   ◌<◌,
   ◌≤◌,
+  ◌%◌,
   ◌⊎◌,
   ℕ,
   true,
@@ -38,7 +39,7 @@ ghost use Rattle.path_rule.specs.declared.view.Role.TheVariants.{Steps};
 ghost use Rattle.path_rule.specs.declared.view.View.{View};
 ghost use Rattle.path_rule.specs.Boxes.{desk_box, memtable_box, DeskIs, HoldsBox, NotesAre};
 ghost use Rattle.path_rule.specs.Filing.{IsFileOf, file_range, put_range};
-ghost use Rattle.path_rule.specs.InBoxes.{BelongsThere, LiesInItsBox};
+ghost use Rattle.path_rule.specs.InBoxes.{BelongsThere, HasItsPlace, LiesInItsBox};
 ghost use Rattle.path_rule.specs.Lasts.{none_filed, shown, shows_of};
 ghost use Rattle.path_rule.specs.Memtables.{HasInHand, IsHome};
 ghost use Rattle.path_rule.specs.PaidFor.{ArePaidFor};
@@ -156,8 +157,8 @@ pub fn gathering_reaches_the_last_marker<K: Keeper>()
 {}
 
 /// What a closed write placed in a memtable that is not retired lies in its writer's box of that
-/// table, for memtables of this parity: at home, or, when it was taken last, in the hand of the
-/// seat that has the box.
+/// table and of the memtable's place: at home, or, when it was taken last, in the hand of the seat
+/// that has the box.
 pub fn what_was_placed_lies_in_memtables<K: Keeper>()
     ensures { (o : Beside) (size : PathSize) (s : State (Slot K) View)
         (r : Ruled (shows_of K.holds) o size s) (p : Placed)
@@ -166,23 +167,25 @@ pub fn what_was_placed_lies_in_memtables<K: Keeper>()
 {}
 
 /// Once the holder of a table's Flush turn has seen the boxes of all seats behind the barrier of a
-/// memtable, what it has seen are notes of the state: exactly those of the entries of the
-/// memtable's log interval that touch its table.
+/// memtable that is not retired, what it has seen are notes of the state: exactly those of the
+/// entries of the memtable's log interval that touch its table.
 pub fn what_was_seen_is_the_memtables_interval<K: Keeper>()
     ensures { (o : Beside) (size : PathSize) (s : State (Slot K) View)
         (r : Ruled (shows_of K.holds) o size s) (j w : ℕ) (v : View) (q : FlushRead)
         → get_elem? s.views j ≡ some v → v.role ≡ Steps w → v.hands.reading ≡ Some q
-        → q.seen_to ≡ size.seats → SeesItsInterval r.core q }
+        → q.retired ≡ false → q.seen_to ≡ size.seats → SeesItsInterval r.core q }
 {}
 
-/// What lies in a box of a memtable at home is a note of the box's seat that touches the table. It
-/// was placed there in a memtable of this parity, retired or not, or its write runs still and has
-/// its place in one of this parity.
+/// A box holds exactly the memtable that has its place: what lies in it at home is a note of the
+/// box's seat that touches the table. It was placed there in that memtable, or its write runs still
+/// and has its place in it. The memtable is the last retired one of its table, or not retired: of
+/// those before it nothing is left.
 pub fn what_lies_in_memtables_was_placed<K: Keeper>()
     ensures { (o : Beside) (size : PathSize) (s : State (Slot K) View)
         (r : Ruled (shows_of K.holds) o size s) (w t m : ℕ) (y : Slot K)
         (notes : List EntryNote) (n : EntryNote) → w < size.seats → t < 16
         → IsHome s.views (memtable_box size.seats w t m)
         → get_elem? s.homes (memtable_box size.seats w t m) ≡ some (some y)
-        → NotesAre y notes → Contains notes n → BelongsThere r.core w t m n }
+        → NotesAre y notes → Contains notes n
+        → (k : ℕ) × (k % 4 ≡ m % 4) × HasItsPlace r.core t k × BelongsThere r.core w t k n }
 {}

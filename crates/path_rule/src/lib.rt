@@ -21,7 +21,7 @@ mod view;
 
 pub use answer::SyncAnswer;
 pub use filing_plays::{LookFiled, NoteFiling, RetireFiled, StopFiling};
-pub use flush_plays::{BeginFirst, BeginNext, EndRead, GiveRead, RetireEmpty, TakeRead};
+pub use flush_plays::{BeginEmptying, BeginRead, EndRead, GiveRead, RetireEmpty, TakeRead};
 pub use lasting::{Beside, Filed, Lasting, PutTable};
 pub use laws::{
     a_stopped_log_takes_nothing, a_stopped_log_tells_a_count_that_has_risen,

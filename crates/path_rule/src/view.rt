@@ -73,12 +73,15 @@ pub struct Progress {
     pub marker: Option<LastMarker>,
 }
 
-/// What the holder of a table's Flush turn has read of a memtable, behind its barrier.
+/// What the holder of a table's Flush turn has read of a memtable, behind its barrier. Where that
+/// is retired, its boxes are emptied.
 pub struct FlushRead {
     /// The table.
     pub table: u64,
-    /// The memtable, which is the least of the table that is not retired.
+    /// The memtable: the least of the table that is not retired, or the last retired one.
     pub memtable: u64,
+    /// Whether it is retired.
+    pub retired: bool,
     /// The notes that were placed there, of the seats below `seen_to`.
     pub seen: LinkedList<EntryNote>,
     /// From the boxes of how many seats, from the first one on.
@@ -87,9 +90,6 @@ pub struct FlushRead {
     pub taken: Option<u64>,
     /// What that one held when it was taken.
     pub held: LinkedList<EntryNote>,
-    /// The final bound of the memtable below, 0 for the first one: what ends at or below it was
-    /// left in these boxes by a retired memtable.
-    pub above: u64,
 }
 
 /// What a seat knows of the boxes that it has.

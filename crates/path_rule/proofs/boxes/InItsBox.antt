@@ -19,7 +19,7 @@ use Rattle.std.proofs.Common.{
   ⊎_elim,
   arith,
 }
-use Rattle.std.specs.Prelude.{◌<◌, ◌⊎◌, ◌≤◌}
+use Rattle.std.specs.Prelude.{◌%◌, ◌<◌, ◌⊎◌, ◌≤◌}
 use Rattle.std.specs.List.{Contains}
 use Rattle.std.proofs.lemmas.Option.{none-some, same_Some}
 use mathlib.Core.Logic.{dite, inl, inr}
@@ -44,6 +44,7 @@ use Rattle.path_rule.specs.declared.view.View.{View}
 use Rattle.path_rule.specs.Boxes.{memtable_box, NotesAre}
 use Rattle.path_rule.specs.InBoxes.{
   BelongsThere,
+  HasItsPlace,
   HasPlaceNow,
   LiesAtHome,
   LiesInHand,
@@ -52,6 +53,7 @@ use Rattle.path_rule.specs.InBoxes.{
 use Rattle.path_rule.specs.Memtables.{HasInHand, IsHome, IsRunning, PutsAs, ReadsBox}
 use Rattle.path_rule.specs.Reads.{ReadsAs}
 use Rattle.path_rule.specs.Rule.{Knows, Ruled}
+use Rattle.path_rule.proofs.boxes.ReadsStay.{place_live, place_made}
 use Rattle.path_rule.proofs.moves.Moving.{core_lawful, part_is, puts_now}
 
 -- A seat that has the box in hand.
@@ -174,39 +176,62 @@ module _ {K : Type 0} (shows : K → Lasting) (o : Beside) (size : PathSize) (s 
             (taken_or_home s.views box));
       }
 
-  -- what a running write put into a box has its place in a memtable of the box's parity
+  -- what a running write put into a box has its place in a memtable of the box's place
   pub runs_there : (w t m : ℕ) (n : EntryNote) → t < 16
       → Contains (r.memtables.contents (memtable_box size.seats w t m)) n
-      → IsRunning s.views w n.end.0 → HasPlaceNow r.core w t m n.end.0
+      → IsRunning s.views w n.end.0
+      → (k : ℕ) × (k % 4 ≡ m % 4) × HasPlaceNow r.core w t k n.end.0
   runs_there w t m n few h R =
       let is = part_is shows o size s r R.id w R.view R.there R.role in
       let P = puts_now shows o size s r R.id w R.view R.there R.role in
-      let H = P.running R.range t m R.claim few (n, h, sym R.ends) in record {
-        range = R.range;
-        claim = ap (λ (p : Seat). p.claim) (sym is) ∙ R.claim;
-        ends = R.ends;
-        memtable = H.put.memtable;
-        parity = H.parity;
-        place = ap (λ (k : ℕ). (seat_table (seat_of r.core w) k).place) (sym H.table)
-            ∙ (ap (λ (p : Seat). (seat_table p H.put.table).place) (sym is)
-            ∙ P.placed H.put R.range H.among R.claim H.ends);
-      }
+      let H = P.running R.range t m R.claim few (n, h, sym R.ends) in (
+        H.put.memtable,
+        H.ring,
+        record {
+          range = R.range;
+          claim = ap (λ (p : Seat). p.claim) (sym is) ∙ R.claim;
+          ends = R.ends;
+          place = ap (λ (k : ℕ). (seat_table (seat_of r.core w) k).place) (sym H.table)
+              ∙ (ap (λ (p : Seat). (seat_table p H.put.table).place) (sym is)
+              ∙ P.placed H.put R.range H.among R.claim H.ends);
+        },
+      )
+
+  -- a box holds what the memtable has that has its place
+  pub holds_its_memtable : (w t m : ℕ) (n : EntryNote) → t < 16
+      → Contains (r.memtables.contents (memtable_box size.seats w t m)) n
+      → (k : ℕ) × (k % 4 ≡ m % 4) × HasItsPlace r.core t k × BelongsThere r.core w t k n
+  holds_its_memtable w t m n few lies = let M = r.memtables in
+      let law = core_lawful shows o size s r in let of = M.sound w t m n few lies in
+      let near = (law.switches.tables t).bounds_rise.one_behind in ⊎_elim
+      (λ p. let made = (law.places.placed _ p.among).accepted.made in let late = p.late in (
+        p.memtable,
+        p.ring,
+        (made, late),
+        record { of = of; put = inl p.among },
+      ))
+      (λ R. let P = runs_there w t m n few lies R in let place = P.2.place in
+      let live = place_live r.core law w t P.0 place in (
+        P.0,
+        P.1,
+        (place_made r.core law w t P.0 place, (let low = live.0 in omega arith)),
+        record { of = of; put = inr P.2 },
+      ))
+      (M.settled w t m n few lies)
 
   pub belongs_there : (w t m : ℕ) (y : Slot K) (notes : List EntryNote) (n : EntryNote)
       → w < size.seats → t < 16 → IsHome s.views (memtable_box size.seats w t m)
       → get_elem? s.homes (memtable_box size.seats w t m) ≡ some (some y) → NotesAre y notes
-      → Contains notes n → BelongsThere r.core w t m n
+      → Contains notes n
+      → (k : ℕ) × (k % 4 ≡ m % 4) × HasItsPlace r.core t k × BelongsThere r.core w t k n
   belongs_there w t m y notes n low few home at kept h =
       let M = r.memtables in let box = memtable_box size.seats w t m in
       let H = M.at_home box (omega arith) (omega arith) home in
       let same : H.0 ≡ y = some-injective H.0 y (some-injective (some H.0) (some y)
       (sym H.1 ∙ at)) in
       let lies = subst (λ l. Contains l n) (same_notes y notes (M.contents box) kept
-      (subst (λ (z : Slot K). NotesAre z (M.contents box)) same H.2)) h in record {
-        of = M.sound w t m n few lies;
-        put = ⊎_elim (λ p. inl p) (λ R. inr (runs_there w t m n few lies R))
-            (M.settled w t m n few lies);
-      }
+      (subst (λ (z : Slot K). NotesAre z (M.contents box)) same H.2)) h in
+      holds_its_memtable w t m n few lies
     where
       same_notes : (y : Slot K) (a b : List EntryNote) → NotesAre y a → NotesAre y b → a ≡ b
       same_notes (Notes l) a b e f = sym e ∙ f

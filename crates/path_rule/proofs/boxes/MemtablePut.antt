@@ -49,6 +49,7 @@ use Rattle.path_core.proofs.lists.Heads.{first_in, first_or_later, later_in}
 use Rattle.path_core.proofs.lists.Replaced.{counted_from}
 use Rattle.path_rule.specs.declared.slot.Slot.{Slot}
 use Rattle.path_rule.specs.declared.slot.Slot.TheVariants.{Notes}
+use Rattle.path_rule.specs.declared.view.FlushRead.{FlushRead}
 use Rattle.path_rule.specs.declared.view.Hands.{Hands}
 use Rattle.path_rule.specs.declared.view.Role.{Role}
 use Rattle.path_rule.specs.declared.view.Role.TheVariants.{Opener, Steps, Spent}
@@ -59,6 +60,7 @@ use Rattle.path_rule.specs.HandsAfter.{with_applied}
 use Rattle.path_rule.specs.Memtables.{
   HasMemtables,
   HasPut,
+  IsEmptied,
   IsOfBox,
   IsPlacedIn,
   IsRunning,
@@ -105,7 +107,10 @@ module _ {K : Type 0} (seats : ℕ) (notes : List EntryNote) (placed : List Plac
     (others_are : (j z : ℕ) (u : View) → j ≢ id → get_elem? views j ≡ some u → u.role ≡ Steps z
     → z ≢ w)
     (unread : (j : ℕ) (u : View) → get_elem? views j ≡ some u
-    → ¬ ReadsBox u.hands (memtable_box seats w t k)) where
+    → ¬ ReadsBox u.hands (memtable_box seats w t k))
+    (unemptied : (j : ℕ) (u : View) → get_elem? views j ≡ some u → (q : FlushRead) (z i : ℕ)
+    → u.hands.reading ≡ Some q → IsEmptied seats q z i
+    → memtable_box seats z q.table i ≢ memtable_box seats w t k) where
   abbrev box : ℕ
   box = memtable_box seats w t k
 
@@ -184,7 +189,7 @@ module _ {K : Type 0} (seats : ℕ) (notes : List EntryNote) (placed : List Plac
               put = H.put;
               among = later_in new H.put v.hands.applied H.among;
               table = H.table;
-              parity = H.parity;
+              ring = H.ring;
               ends = H.ends;
             })
             (λ same is. let q : memtable_box seats w u m ≡ memtable_box seats w t k = same in
@@ -192,7 +197,7 @@ module _ {K : Type 0} (seats : ℕ) (notes : List EntryNote) (placed : List Plac
               put = new;
               among = first_in new v.hands.applied;
               table = omega arith;
-              parity = omega arith;
+              ring = omega arith;
               ends = ap (λ (n : EntryNote). n.end.0) is ∙ there.2;
             });
         placed = λ a r e c is. places a.table a.memtable (⊎_elim
@@ -202,6 +207,8 @@ module _ {K : Type 0} (seats : ℕ) (notes : List EntryNote) (placed : List Plac
             (first_or_later new a v.hands.applied e));
         reads = λ q b e taken. old.reads q b e taken ∙ sym (now_else b
             (λ same. unread id v at (q, e, taken ∙ ap (λ (c : ℕ). Some c) same)));
+        emptied = λ q z i e bare. now_else (memtable_box seats z q.table i)
+            (unemptied id v at q z i e bare) ∙ old.emptied q z i e bare;
       })
 
   others : (j : ℕ) (u : View) → j ≢ id → get_elem? views j ≡ some u
@@ -230,6 +237,8 @@ module _ {K : Type 0} (seats : ℕ) (notes : List EntryNote) (placed : List Plac
         placed = P.placed;
         reads = λ q b h taken. P.reads q b h taken ∙ sym (now_else b
             (λ same. unread j u e (q, h, taken ∙ ap (λ (c : ℕ). Some c) same)));
+        emptied = λ q y i h bare. now_else (memtable_box seats y q.table i)
+            (unemptied j u e q y i h bare) ∙ P.emptied q y i h bare;
       }
 
   sound_then : (z u m : ℕ) (n : EntryNote) → u < 16
@@ -243,9 +252,9 @@ module _ {K : Type 0} (seats : ℕ) (notes : List EntryNote) (placed : List Plac
 
   settled_then : (z u m : ℕ) (n : EntryNote) → u < 16
       → Contains (contents' (memtable_box seats z u m)) n
-      → IsPlacedIn placed u m n.end.0 ⊎ IsRunning (set views id v') z n.end.0
+      → IsPlacedIn placed tables u m n.end.0 ⊎ IsRunning (set views id v') z n.end.0
   settled_then z u m n small h = cases (memtable_box seats z u m) n h
-      (IsPlacedIn placed u m n.end.0 ⊎ IsRunning (set views id v') z n.end.0)
+      (IsPlacedIn placed tables u m n.end.0 ⊎ IsRunning (set views id v') z n.end.0)
       (λ was. ⊎_elim (λ p. inl p)
       (λ R. inr (runs_still views id v v' at role claim z n.end.0 R)) (M.settled z u m n small was))
       (λ same is. let q : memtable_box seats z u m ≡ memtable_box seats w t k = same in
@@ -278,6 +287,10 @@ module _ {K : Type 0} (seats : ℕ) (notes : List EntryNote) (placed : List Plac
           not_yet (f.0, f.1, eqb-true f.0.end.0 key f.2 ∙ is))))
           (λ apart. let zero = ap (λ b. cond {A = ℕ} b 1 0)
           (ne_eqb note.end.0 key (λ e. apart (sym e))) in omega arith)
+
+  within_then : (b : ℕ) (n : EntryNote) → Contains (contents' b) n → b < all_boxes seats
+  within_then b n h = cases b n h (b < all_boxes seats) (λ was. M.within b n was)
+      (λ same is. omega arith)
 
   put_noted : PutNotes notes v'.hands
   put_noted a h = ⊎_elim
@@ -315,6 +328,7 @@ module _ {K : Type 0} (seats : ℕ) (notes : List EntryNote) (placed : List Plac
     sound = sound_then;
     settled = settled_then;
     once = once_then;
+    within = within_then;
     noted = all_noted seats notes notes placed placed tables tables homes views M id v v' at
         (λ n q. q) put_noted;
   }

@@ -6,6 +6,7 @@ use Rattle.std.proofs.Common.{
   ◌<◌,
   ◌≤◌,
   List,
+  [],
   Option,
   set,
   Some,
@@ -16,6 +17,7 @@ use Rattle.std.proofs.Common.{
   subst,
   ⊎_elim,
 }
+use Rattle.std.specs.List.{Contains}
 use mathlib.Core.Logic.{inl, inr}
 use mathlib.Core.Option.{some, none}
 use mathlib.Core.Option as maybe
@@ -29,12 +31,14 @@ use Rattle.path_rule.specs.declared.view.FlushRead.{FlushRead}
 use Rattle.path_rule.specs.declared.view.Hands.{Hands}
 use Rattle.path_rule.specs.declared.view.Role.TheVariants.{Steps}
 use Rattle.path_rule.specs.declared.view.View.{View}
-use Rattle.path_rule.specs.Boxes.{boxes, all_boxes, NotesAre}
+use Rattle.path_rule.specs.Boxes.{boxes, all_boxes, memtable_box, NotesAre}
 use Rattle.path_rule.specs.HandsAfter.{with_reading}
 use Rattle.path_rule.specs.Memtables.{
   HasMemtables,
+  IsEmptied,
   IsHome,
   IsKeptAt,
+  IsPlacedIn,
   PutNotes,
   PutsAre,
   PutsAs,
@@ -58,11 +62,13 @@ module _ {K : Type 0} (seats : ℕ) (notes : List EntryNote) (placed : List Plac
     (note : v'.part.note ≡ v.part.note) (claim : v'.part.claim ≡ v.part.claim)
     (places : PlacesStay v.part v'.part) (q : Option FlushRead)
     (hands : v'.hands ≡ with_reading q v.hands)
-    (knows : (z : FlushRead) (b : ℕ) → q ≡ Some z → z.taken ≡ Some b → z.held ≡ M.contents b) where
+    (knows : (z : FlushRead) (b : ℕ) → q ≡ Some z → z.taken ≡ Some b → z.held ≡ M.contents b)
+    (emptied : (z : FlushRead) (y k : ℕ) → q ≡ Some z → IsEmptied seats z y k
+    → M.contents (memtable_box seats y z.table k) ≡ []) where
   old : PutsAre M.contents seats w v.part v.hands
   old = subst (PutsAs M.contents seats v.part v.hands) mine (M.in_hands id v at)
 
-  pub own : PutsAs M.contents seats v'.part v'.hands v'.role
+  own : PutsAs M.contents seats v'.part v'.hands v'.role
   own = let P = puts_stay M.contents seats w v.part v'.part v.hands v.hands note claim places
       (refl, refl, refl, refl) old in
       subst (PutsAs M.contents seats v'.part v'.hands) (sym (role ∙ mine))
@@ -75,15 +81,16 @@ module _ {K : Type 0} (seats : ℕ) (notes : List EntryNote) (placed : List Plac
           put = H.put;
           among = H.among;
           table = H.table;
-          parity = H.parity;
+          ring = H.ring;
           ends = H.ends;
         };
         placed = P.placed;
         reads = knows;
+        emptied = emptied;
       }))
 
   -- what seats put into boxes are notes still
-  pub noted_then : (j : ℕ) (u : View) → get_elem? (set views id v') j ≡ some u
+  noted_then : (j : ℕ) (u : View) → get_elem? (set views id v') j ≡ some u
       → PutNotes notes u.hands
   noted_then = all_noted seats notes notes placed placed tables tables homes views M id v v' at
       (λ n h. h) (same_noted seats notes notes placed placed tables tables homes views M id v v' at
@@ -104,6 +111,7 @@ module _ {K : Type 0} (seats : ℕ) (notes : List EntryNote) (placed : List Plac
     settled = λ z t m n few h. ⊎_elim (λ p. inl p)
         (λ R. inr (runs_still views id v v' at role claim z n.end.0 R)) (M.settled z t m n few h);
     once = M.once;
+    within = M.within;
     noted = noted_then;
   }
 
@@ -111,7 +119,7 @@ module _ {K : Type 0} (seats : ℕ) (notes : List EntryNote) (placed : List Plac
   box_same = ap (λ (h : Hands). h.memtable_box) hands
 
   -- at home before, but for a box that it read
-  pub home_before : (b : ℕ) → ¬ ReadsBox v.hands b → IsHome (set views id v') b → IsHome views b
+  home_before : (b : ℕ) → ¬ ReadsBox v.hands b → IsHome (set views id v') b → IsHome views b
   home_before b unread free = old_home seats notes notes placed placed tables tables homes views M
       id v v' at (λ n h. h) b
       (λ h. ⊎_elim (λ e. inl (box_same ∙ e)) (λ R. absurd (unread R)) h) free
@@ -139,16 +147,20 @@ module _ {K : Type 0} (seats : ℕ) (notes : List EntryNote) (placed : List Plac
 -- The same boxes, where memtables were retired.
 pub retabled : {K : Type 0} (seats : ℕ) (notes : List EntryNote) (placed : List Placed)
     (tables next : List TableState) (homes : List (maybe.Option (Slot K))) (views : List View)
-    → HasMemtables seats notes placed tables homes views
+    → (M : HasMemtables seats notes placed tables homes views)
     → ((p : Placed) → IsKeptAt next p → IsKeptAt tables p)
+    → ((w t m : ℕ) (n : EntryNote) → t < 16 → Contains (M.contents (memtable_box seats w t m)) n
+    → IsPlacedIn placed tables t m n.end.0 → IsPlacedIn placed next t m n.end.0)
     → HasMemtables seats notes placed next homes views
-retabled seats notes placed tables next homes views M kept = record {
+retabled seats notes placed tables next homes views M kept late = record {
   contents = M.contents;
   at_home = M.at_home;
   in_hands = M.in_hands;
   kept = λ p h live. M.kept p h (kept p live);
   sound = M.sound;
-  settled = M.settled;
+  settled = λ w t m n few h. ⊎_elim (λ p. inl (late w t m n few h p)) (λ R. inr R)
+      (M.settled w t m n few h);
   once = M.once;
+  within = M.within;
   noted = M.noted;
 }

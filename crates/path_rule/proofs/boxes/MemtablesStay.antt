@@ -67,7 +67,7 @@ still_put t m entry h h' same H = record {
   put = H.put;
   among = subst (λ l. Contains l H.put) (sym same) H.among;
   table = H.table;
-  parity = H.parity;
+  ring = H.ring;
   ends = H.ends;
 }
 
@@ -96,6 +96,7 @@ puts_stay contents seats w p q h h' note claim places same P = record {
   placed = λ a r e c is. places a.table a.memtable
       (P.placed a r (subst (λ l. Contains l a) same.2 e) (sym claim ∙ c) is);
   reads = λ q b e taken. P.reads q b (sym same.3 ∙ e) taken;
+  emptied = λ q z k e. P.emptied q z k (sym same.3 ∙ e);
 }
 
 none_some : {A : Type 0} (a : A) → None ≡ Some a → ⊥
@@ -113,6 +114,7 @@ closed_puts contents seats w p q h empty claim P = record {
   running = λ r t m e few there. absurd (none_some r (sym claim ∙ e));
   placed = λ a r e c is. absurd (none_some r (sym claim ∙ c));
   reads = P.reads;
+  emptied = P.emptied;
 }
 
 -- It has deposited its write, and has none in hand.
@@ -127,6 +129,7 @@ noted_puts contents seats w p q h empty claim places P = record {
   running = λ r t m e. P.running r t m (sym claim ∙ e);
   placed = λ a r e c is. places a.table a.memtable (P.placed a r e (sym claim ∙ c) is);
   reads = P.reads;
+  emptied = P.emptied;
 }
 
 -- It has claimed a range behind all that lies in its boxes, and behind what it put there.
@@ -143,6 +146,7 @@ claimed_puts contents seats w p q h note places none_there unput P = record {
   running = λ r t m e few there. absurd (none_there r t m e few there);
   placed = λ a r e c is. absurd (unput r a c e is);
   reads = P.reads;
+  emptied = P.emptied;
 }
 
 -- Which writes run once the view of a seat is another.
@@ -254,7 +258,7 @@ module _ {K : Type 0} (seats : ℕ) (notes more : List EntryNote) (placed after 
       → ((p : Placed) → Contains after p → IsKeptAt next p → IsPut M.contents seats p)
       → ((w t m : ℕ) (n : EntryNote) → t < 16
       → Contains (M.contents (memtable_box seats w t m)) n
-      → IsPlacedIn after t m n.end.0 ⊎ IsRunning (set views id v') w n.end.0)
+      → IsPlacedIn after next t m n.end.0 ⊎ IsRunning (set views id v') w n.end.0)
       → HasMemtables seats more after next homes' (set views id v')
   memtables_stay homes' same box read applied own kept settled = record {
     contents = M.contents;
@@ -266,6 +270,7 @@ module _ {K : Type 0} (seats : ℕ) (notes more : List EntryNote) (placed after 
     sound = λ w t m n few h. still_of w t n (M.sound w t m n few h);
     settled = settled;
     once = M.once;
+    within = M.within;
     noted = all_noted (same_noted applied);
   }
 
@@ -302,6 +307,7 @@ module _ {K : Type 0} (seats : ℕ) (notes : List EntryNote) (placed : List Plac
             (λ R. inr (runs_still views id v v' at role claim w n.end.0 R))
             (M.settled w t m n few h);
         once = M.once;
+        within = M.within;
         noted = all_noted seats notes notes placed placed tables tables homes views M id v v' at
             (λ n q. q) (same_noted seats notes notes placed placed tables tables homes views M id v
             v' at (λ n q. q) applied);
@@ -334,6 +340,7 @@ module _ {K : Type 0} (seats : ℕ) (notes : List EntryNote) (placed : List Plac
         placed = λ a r e c is. places a.table a.memtable
             (old.placed a r (subst (λ l. Contains l a) applied e) (sym claim ∙ c) is);
         reads = λ q b e taken. old.reads q b (sym read ∙ e) taken;
+        emptied = λ q z k e. old.emptied q z k (sym read ∙ e);
       })
 
 -- Other views that have the same boxes.
@@ -355,5 +362,6 @@ memtables_seen seats notes placed tables homes views after M free hands runs not
   settled = λ w t m n few h. ⊎_elim (λ p. inl p) (λ R. inr (runs w n.end.0 R))
       (M.settled w t m n few h);
   once = M.once;
+  within = M.within;
   noted = noted;
 }

@@ -18,7 +18,7 @@ use Rattle.path_rule.specs.Memtables.{HasInHand, PutsAs, ReadsBox}
 use Rattle.path_rule.specs.Reads.{ReadsAs}
 use Rattle.path_rule.specs.Rule.{Knows, Ruled}
 use Rattle.path_rule.proofs.boxes.InItsBox.{one_keeper}
-use Rattle.path_rule.proofs.boxes.ReadsStay.{none_reads}
+use Rattle.path_rule.proofs.boxes.ReadsStay.{near_reads, none_reads}
 use Rattle.path_rule.proofs.moves.Moving.{core_lawful, part_is}
 
 module _ {K : Type 0} (shows : K → Lasting) (o : Beside) (size : PathSize) (s : State (Slot K) View)
@@ -42,7 +42,8 @@ module _ {K : Type 0} (shows : K → Lasting) (o : Beside) (size : PathSize) (s 
           none_reads r.core (core_lawful shows o size s r) z Q.0.table I.memtable Q.0.memtable
           (ap (λ (k : ℕ). (seat_table (seat_of r.core z) k).place) (sym table)
           ∙ (ap (λ (p : Seat). (seat_table p I.table).place)
-          (sym (part_is shows o size s r j z u at is)) ∙ I.place)) H.passed H.live (omega arith)
+          (sym (part_is shows o size s r j z u at is)) ∙ I.place)) H.passed
+          (near_reads size.seats r.core v.part Q.0 H) (omega arith)
 
   -- one seat reads it
   one_reader : (j i b : ℕ) (u v : View) → get_elem? s.views j ≡ some u

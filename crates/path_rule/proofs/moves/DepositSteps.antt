@@ -141,7 +141,8 @@ module _ {K : Type 0} (shows : K → Lasting) (o : Beside) (size : PathSize) (sl
             (place_still shows o size s r id w m.0 there mine e (reading_at (Count Append g) n)
             (told_by None m.0.hands) tt) P)
             (still_kept shows o size s r e may tt refl)
-            (λ z t k q few h R. inr (runs_still s.views id m.0 v' there refl C.claim z q.end.0 R)))
+            (λ z t k q few h R. inr (runs_still s.views id m.0 v' there refl C.claim z q.end.0 R))
+            (λ t. tt))
             (reads_still shows o size s r id w m.0 there mine e refl may whole tt fits tt rows
             ((n + (2 ^ 64 - 1)) % 2 ^ 64) n None m.0.hands now refl tt refl),
         (λ z q other role mine' has. let same : note

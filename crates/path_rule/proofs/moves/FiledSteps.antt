@@ -55,7 +55,7 @@ use Rattle.path_rule.specs.Retires.{RetiresFiledIn, written_as}
 use Rattle.path_rule.specs.Rule.{Ruled, Was, told_by, view_filed, with_hands}
 use Rattle.path_rule.proofs.boxes.AtHome.{inside_list}
 use Rattle.path_rule.proofs.boxes.DeskChanged.{boxed_desk_turns}
-use Rattle.path_rule.proofs.boxes.MemtableReads.{read_still, retabled}
+use Rattle.path_rule.proofs.boxes.MemtableReads.{read_still}
 use Rattle.path_rule.proofs.boxes.MemtablesStay.{memtables_stay, puts_stay, runs_still}
 use Rattle.path_rule.proofs.log.FilingStays.{may_still, retired_grows, still_going}
 use Rattle.path_rule.proofs.log.KeptStays.{kept_stays}
@@ -64,6 +64,7 @@ use Rattle.path_rule.proofs.moves.FilingFacts.{live, may, upper_is}
 use Rattle.path_rule.proofs.moves.HolderFacts.{outside, others_free, is_held, hands_now}
 use Rattle.path_rule.proofs.moves.Moving.{capacity_is, columns_now, core_lawful, kept_before, known}
 use Rattle.path_rule.proofs.moves.Moving.{place_still, plays_all, puts_now, reads_then, was}
+use Rattle.path_rule.proofs.moves.RetiredBoxes.{late_still}
 use Rattle.path_rule.proofs.moves.StepFacts.{last_same}
 use Rattle.path_rule.proofs.moves.SyncFacts.{turn_exact}
 use Rattle.path_rule.proofs.moves.SyncSteps.{desk_same, top_box}
@@ -232,15 +233,18 @@ module _ {K : Type 0} (shows : K → Lasting) (o : Beside) (size : PathSize) (sl
     abbrev told_view : View
     told_view = record m.0 { hands = told_desk }
 
-    memtables_told : HasMemtables size.seats x.notes x.placed x.tables s.homes
+    memtables_told : HasMemtables size.seats x.notes x.placed (next_of x e).tables s.homes
         (set s.views id told_view)
-    memtables_told = memtables_stay size.seats x.notes x.notes x.placed x.placed x.tables x.tables
-        s.homes s.views r.memtables id m.0 told_view there (λ n h. h) s.homes (λ b low. refl) refl
-        refl refl (subst (PutsAs r.memtables.contents size.seats m.0.part told_desk) (sym mine)
+    memtables_told = memtables_stay size.seats x.notes x.notes x.placed x.placed x.tables
+        (next_of x e).tables s.homes s.views r.memtables id m.0 told_view there (λ n h. h) s.homes
+        (λ b low. refl) refl refl refl (subst (PutsAs r.memtables.contents size.seats m.0.part told_desk) (sym mine)
         (puts_stay r.memtables.contents size.seats w m.0.part m.0.part m.0.hands told_desk refl refl
         (λ u j place. place) (refl, refl, refl, refl)
-        (puts_now shows o size s r id w m.0 there mine))) r.memtables.kept
-        (λ z u j n small among. ⊎_elim (λ p. inl p)
+        (puts_now shows o size s r id w m.0 there mine)))
+        (λ p h live. r.memtables.kept p h (kept_before shows o size s r e may_now tt p live))
+        (λ z u j n small among. ⊎_elim
+        (λ p. inl (late_still shows o size s r id w m.0 there mine q sees.0 sees.5 t sees.1 (suc k)
+        may_now z u j n small among p))
         (λ R. inr (runs_still s.views id m.0 told_view there refl refl z n.end.0 R))
         (r.memtables.settled z u j n small among))
 
@@ -274,9 +278,7 @@ module _ {K : Type 0} (shows : K → Lasting) (o : Beside) (size : PathSize) (sl
             B.unlogged)
             (subst (λ (l : List View). HasMemtables size.seats r.core.notes r.core.placed
             (next_of r.core e).tables s.homes l) (set-set s.views id (told_view s r there) v')
-            (retabled size.seats r.core.notes r.core.placed r.core.tables
-            (next_of r.core e).tables s.homes _
-            (read_still size.seats r.core.notes r.core.placed r.core.tables s.homes
+            (read_still size.seats r.core.notes r.core.placed (next_of r.core e).tables s.homes
             (set s.views id (told_view s r there)) (memtables_told s r there) id w
             (told_view s r there) v'
             (set_here s.views id (told_view s r there) (inside_list s.views id m.0 there)) mine refl
@@ -284,9 +286,9 @@ module _ {K : Type 0} (shows : K → Lasting) (o : Beside) (size : PathSize) (sl
             (place_still shows o size s r id w m.0 there mine e (Number 0)
             (told_by (Some put_now.lower) h) tt)
             None refl (λ z b is taken. absurd (none-some z is))
+            (λ z y j is bare. absurd (none-some z is))
             (λ b Q. none-some b (sym (ap (λ (z : FlushRead). z.taken)
-            (same_reading Q.0 q Q.1 sees.0) ∙ sees.3) ∙ Q.2)))
-            (kept_before shows o size s r e may tt)))
+            (same_reading Q.0 q Q.1 sees.0) ∙ sees.3) ∙ Q.2))))
             (reads_then shows o size s r id w m.0 there mine e refl may tt tt few tt rows (suc k)
             (suc k) (Some put_now.lower) h refl told (λ z is. absurd (none-some z is))),
         λ z u lasting pending role _ word C'. let d = desk_same shows C.0 C'.0

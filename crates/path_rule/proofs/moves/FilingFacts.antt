@@ -89,6 +89,7 @@ use Rattle.path_rule.specs.FilingTold.{AreSeen, FoundFinal, SeesAll, next_file}
 use Rattle.path_rule.specs.Lasts.{lasting_of, put_file, put_table, shown}
 use Rattle.path_rule.specs.Reads.{ReadsAre, placed_at}
 use Rattle.path_rule.specs.Rule.{Ruled}
+use Rattle.path_rule.proofs.boxes.ReadsStay.{read_live}
 use Rattle.path_rule.proofs.boxes.SeenInterval.{all_seen}
 use Rattle.path_rule.proofs.log.FilesShown.{few_files, last_is, upper_held}
 use Rattle.path_rule.proofs.log.NotesBehind.{ends_below}
@@ -131,7 +132,8 @@ module _ {K : Type 0} (shows : K → Lasting) (o : Beside) (size : PathSize) (sl
   reads = reads_now shows o size s r id w m.0 there mine q sees.0
 
   pub live : (table_of x t.0).oldest_live ≡ k
-  live = ap (λ (c : ℕ). (table_of x c).oldest_live) (sym sees.1) ∙ (reads.live ∙ sees.2)
+  live = ap (λ (c : ℕ). (table_of x c).oldest_live) (sym sees.1)
+      ∙ (read_live size.seats x m.0.part q reads sees.5 ∙ sees.2)
 
   pub passed : HasPassedBarrier x t.0 k
   passed = subst (λ (y : ℕ × ℕ). HasPassedBarrier x y.0 y.1) (λ i. (sees.1 i, sees.2 i))
@@ -238,7 +240,8 @@ module _ {K : Type 0} (shows : K → Lasting) (o : Beside) (size : PathSize) (sl
             position = refl;
           } in
           let placed = (holds_interval c.note.end.0).1 T in
-          let n = all_seen shows o size s r id w m.0 q there mine sees.0 sees.4 c.note.end.0
+          let n = all_seen shows o size s r id w m.0 q there mine sees.0 sees.5 sees.4
+          c.note.end.0
           (subst (λ (y : ℕ × ℕ). Contains x.placed
           (record { table = y.0; entry = c.note.end.0; memtable = y.1 }))
           (λ i. (sym sees.1 i, (live ∙ sym sees.2) i)) placed) in

@@ -48,6 +48,7 @@ use Rattle.path_rule.specs.Rule.{Ruled, view_after}
 use Rattle.path_rule.specs.Told.{Made, Finished}
 use Rattle.path_rule.proofs.boxes.HeldBoxes.{boxed_stay}
 use Rattle.path_rule.proofs.boxes.MemtablesStay.{closed_puts, runs_there}
+use Rattle.path_rule.proofs.boxes.ReadsStay.{place_live}
 use Rattle.path_rule.proofs.moves.AppendSteps.{low_seat}
 use Rattle.path_rule.proofs.moves.Looks.{as_part, within, acts_with, each_name}
 use Rattle.path_rule.proofs.moves.Moving.{core_lawful, kept_before, puts_now, LiesPlaced}
@@ -147,7 +148,7 @@ module _ {K : Type 0} (shows : K → Lasting) (o : Beside) (size : PathSize) (sl
           → Contains (r.memtables.contents (memtable_box size.seats z t k)) n
           → (R : IsRunning s.views z n.end.0) → R.id ≡ id
           → let y = next_of r.core (Close w Write g (Applied places)) in
-          IsPlacedIn y.placed t k n.end.0
+          IsPlacedIn y.placed y.tables t k n.end.0
       placed_now s r there places g z t k n few h R same =
           let x = r.core in let law = core_lawful shows o size s r in
           let is = as_part shows o size slots id m w mine s r there in
@@ -177,7 +178,7 @@ module _ {K : Type 0} (shows : K → Lasting) (o : Beside) (size : PathSize) (sl
             memtable = H.put.memtable;
           } in record {
             memtable = H.put.memtable;
-            parity = H.parity;
+            ring = H.ring;
             among = subst (λ (q : ℕ). Contains
                 (next_of x (Close w Write g (Applied places))).placed
                 (record { table = t; entry = q; memtable = H.put.memtable })) end
@@ -190,6 +191,7 @@ module _ {K : Type 0} (shows : K → Lasting) (o : Beside) (size : PathSize) (sl
                 })) (from_zero t)
                 (place_among 0 (end_of_claim (seat_of x w)) (seat_of x w).tables t H.put.memtable
                 place)));
+            late = (let live = (place_live x law w t H.put.memtable place).0 in omega arith);
           }
 
       -- what the close places lies in the seat's boxes

@@ -125,6 +125,13 @@ live_still x e a t leaves = by e a leaves
     by (Put w (OldestLive u) value) a leaves = ap (λ (tb : TableState). tb.oldest_live)
         (get_or-set_other x.tables u.0 t _ fresh_table leaves)
 
+-- A step that leaves what the seat reads retires no memtable.
+pub leaves_live : (h : Hands) (e : Event) → LeavesReading h e → (t : ℕ) → LeavesLive t e
+leaves_live h (Put by (OldestLive u) value) leaves t = absurd leaves
+leaves_live h (Put by Synced value) leaves t = tt
+leaves_live h (Put by Stopped value) leaves t = tt
+leaves_live h e leaves t = tt
+
 -- A step retires no memtable of the table, or the least of it.
 pub live_moves : (x : PathState) (e : Event) → IsStep x e → (t : ℕ)
     → ((table_of (next_of x e) t).oldest_live ≡ (table_of x t).oldest_live)

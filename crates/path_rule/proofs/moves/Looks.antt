@@ -55,7 +55,7 @@ use Rattle.path_rule.proofs.boxes.HeldBoxes.{boxed_stay}
 use Rattle.path_rule.proofs.boxes.MemtablesStay.{puts_stay, runs_still}
 use Rattle.path_rule.proofs.log.TrailMemtables.{ToldTrue}
 use Rattle.path_rule.proofs.moves.LeavesWrites.{LeavesReading, LeavesWrite, claim_left, files_left}
-use Rattle.path_rule.proofs.moves.LeavesWrites.{leaves_places, note_left, placed_left}
+use Rattle.path_rule.proofs.moves.LeavesWrites.{leaves_live, leaves_places, note_left, placed_left}
 use Rattle.path_rule.proofs.moves.Moving.{core_lawful, known, part_is, inside, was, plays_with}
 use Rattle.path_rule.proofs.moves.Moving.{columns_now, memtables_then, place_still, puts_now}
 use Rattle.path_rule.proofs.moves.Moving.{still_kept, LiesPlaced, RunsOn, reads_still}
@@ -162,7 +162,7 @@ module _ {K : Type 0} (shows : K → Lasting) (o : Beside) (size : PathSize) (sl
               (boxed C)
               (memtables_then shows o size s r id w m.0 there mine e by may whole built spot spends
               rows n found None m.0.hands now told m.1 keeps tt refl refl refl (puts C) kept
-              (runs C))
+              (runs C) (leaves_live m.0.hands e quiet))
               (reads_still shows o size s r id w m.0 there mine e by may whole built spot spends
               rows n found None m.0.hands now told quiet refl),
           ok (was shows o size s r id w m.0 there mine e may whole),

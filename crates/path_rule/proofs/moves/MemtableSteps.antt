@@ -17,13 +17,14 @@ use Rattle.path_core.specs.declared.event.Reading.TheVariants.{Number}
 use Rattle.path_core.specs.declared.note.EntryNote.{EntryNote}
 use Rattle.path_core.specs.declared.seat.Seat.{Seat as SeatOf}
 use Rattle.path_core.specs.Allowed.{IsStep}
-use Rattle.path_core.specs.Parts.{seat_table, table_of, touches, HasPassedBarrier}
+use Rattle.path_core.specs.Parts.{seat_of, seat_table, table_of, touches, HasPassedBarrier}
 use Rattle.path_core.specs.SeatAfter.{seat_after}
 use Rattle.path_core.proofs.seats.Columns.{Columns}
 use Rattle.path_rule.specs.declared.lasting.Beside.{Beside}
 use Rattle.path_rule.specs.declared.lasting.Lasting.{Lasting}
 use Rattle.path_rule.specs.declared.slot.Slot.{Slot}
 use Rattle.path_rule.specs.declared.slot.Slot.TheVariants.{Notes}
+use Rattle.path_rule.specs.declared.view.FlushRead.{FlushRead}
 use Rattle.path_rule.specs.declared.view.Hands.{Hands}
 use Rattle.path_rule.specs.declared.view.PathSize.{PathSize}
 use Rattle.path_rule.specs.declared.view.Role.{Role}
@@ -34,7 +35,7 @@ use Rattle.path_rule.specs.Boxed.{Boxed}
 use Rattle.path_rule.specs.Boxes.{memtable_box}
 use Rattle.path_rule.specs.HandsAfter.{with_applied, with_held}
 use Rattle.path_rule.specs.Lasts.{shown}
-use Rattle.path_rule.specs.Memtables.{HasMemtables, IsHome, IsOfBox, PutsAs, ReadsBox}
+use Rattle.path_rule.specs.Memtables.{HasMemtables, IsEmptied, IsHome, IsOfBox, PutsAs, ReadsBox}
 use Rattle.path_rule.specs.Reads.{ReadsAs}
 use Rattle.path_rule.specs.Rule.{start_of, told_by, view_after, with_hands, Knows, Ruled, Was}
 use Rattle.path_rule.specs.Told.{MadeAs}
@@ -42,7 +43,7 @@ use Rattle.path_rule.proofs.boxes.FewNotes.{few}
 use Rattle.path_rule.proofs.boxes.MemtablePut.{memtable_given}
 use Rattle.path_rule.proofs.boxes.MemtablesStay.{memtable_taken}
 use Rattle.path_rule.proofs.boxes.OtherBoxes.{boxed_other}
-use Rattle.path_rule.proofs.boxes.ReadsStay.{none_reads}
+use Rattle.path_rule.proofs.boxes.ReadsStay.{emptied_retired, near_reads, none_reads, place_live}
 use Rattle.path_rule.proofs.log.Deposits.{deposited_noted}
 use Rattle.path_rule.proofs.log.OwnWrites.{below_log}
 use Rattle.path_rule.proofs.moves.AppendSteps.{low_seat}
@@ -84,7 +85,28 @@ module _ {K : Type 0} (shows : K → Lasting) (o : Beside) (size : PathSize) (sl
             (ap (λ (p : SeatOf). (seat_table p t).place)
             (sym (known shows o size s r id w m.0 there mine).1.2) ∙ place)
             (subst (λ (q : ℕ). HasPassedBarrier r.core q Q.0.memtable) (sym table) H.passed)
-            (ap (λ (q : ℕ). (table_of r.core q).oldest_live) table ∙ H.live) (omega arith)
+            (subst (λ (q : ℕ). (Q.0.memtable ≤ (table_of r.core q).oldest_live)
+            × ((table_of r.core q).oldest_live ≤ suc Q.0.memtable)) (sym table)
+            (near_reads size.seats r.core u.part Q.0 H)) (omega arith)
+
+    -- Nor did it empty that one: it emptied those of a retired memtable.
+    never_emptied : (t k : ℕ) → t < 16 → (seat_table m.0.part t).place ≡ Some k → (j : ℕ)
+        (u : View) → get_elem? s.views j ≡ some u → (q : FlushRead) (z i : ℕ)
+        → u.hands.reading ≡ Some q → IsEmptied size.seats q z i
+        → memtable_box size.seats z q.table i ≢ memtable_box size.seats w t k
+    never_emptied t k few place j u e q z i is bare same = by u.role (r.reads j u e)
+      where
+        by : (ρ : Role) → ReadsAs size.seats r.core u.part u.hands ρ → ⊥
+        by (Opener n) R = none-some q (sym R ∙ is)
+        by Spent R = none-some q (sym R ∙ is)
+        by (Steps y) R = let H = R q is in let small = H.few in
+            let table : q.table ≡ t = omega arith in
+            let gone = emptied_retired size.seats r.core u.part q H z i bare in
+            let live = place_live r.core (core_lawful shows o size s r) w q.table k
+            (ap (λ (c : ℕ). (seat_table (seat_of r.core w) c).place) table
+            ∙ (ap (λ (p : SeatOf). (seat_table p t).place)
+            (sym (known shows o size s r id w m.0 there mine).1.2) ∙ place)) in
+            let least = live.0 in let most = live.1 in absurd (omega arith)
 
     -- the seat's own box is at home, where it has none in hand
     own_home : (t k : ℕ) → t < 16 → m.0.hands.memtable_box ≡ None
@@ -228,7 +250,7 @@ module _ {K : Type 0} (shows : K → Lasting) (o : Beside) (size : PathSize) (sl
       small low r.deep mine refl note (has ∙ ap (λ (b : ℕ). Some b) same) refl C.claim
       (place_still shows o size s r id w m.0 there mine e (Number n) (told_by None h) tt) place
       note.start.0 applies.range applies.fresh (belongs s r there) (others_are s r there)
-      (never_read s r there t.0 k small place))) in (
+      (never_read s r there t.0 k small place) (never_emptied s r there t.0 k small place))) in (
         v',
         gives,
         tt,

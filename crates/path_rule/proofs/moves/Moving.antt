@@ -74,9 +74,9 @@ use Rattle.path_rule.proofs.log.KeptStays.{kept_stays}
 use Rattle.path_rule.proofs.log.TrailMemtables.{ToldTrue}
 use Rattle.path_rule.proofs.log.TrailsTell.{tells_more, view_still}
 use Rattle.path_rule.proofs.moves.LeavesWrites.{LeavesLive, LeavesReading, LeavesWrite, MovesBelow}
-use Rattle.path_rule.proofs.moves.LeavesWrites.{claim_left, files_left, leaves_places, live_moves}
-use Rattle.path_rule.proofs.moves.LeavesWrites.{live_still, note_left, placed_left, placed_stays}
-use Rattle.path_rule.proofs.moves.LeavesWrites.{same_above}
+use Rattle.path_rule.proofs.moves.LeavesWrites.{claim_left, files_left, leaves_live, leaves_places}
+use Rattle.path_rule.proofs.moves.LeavesWrites.{live_moves, live_still, note_left, placed_left}
+use Rattle.path_rule.proofs.moves.LeavesWrites.{placed_stays, same_above}
 use Rattle.path_rule.proofs.seats.PlaceStays.{LeavesPlaces, place_stays}
 use Rattle.path_rule.proofs.places.SamePlace.{same_place, in_rows, shown_word}
 use Rattle.path_rule.proofs.places.ShownSteps.{shown_own, shown_was}
@@ -120,15 +120,18 @@ module _ {K : Type 0} (shows : K → Lasting) (o : Beside) (size : PathSize) (s 
     still_kept same p h live = r.memtables.kept p (subst (λ l. Contains l p) same h)
         (kept_before p live)
 
-    -- and is where it was
-    pub placed_still : (t k entry : ℕ) → IsPlacedIn r.core.placed t k entry
-        → IsPlacedIn (next_of r.core e).placed t k entry
-    placed_still t k entry P = record {
-      memtable = P.memtable;
-      parity = P.parity;
-      among = placed_stays r.core e (record { table = t; entry = entry; memtable = P.memtable })
-          P.among;
-    }
+    -- and is where it was, where no memtable of the table is retired
+    pub placed_still : (t k entry : ℕ) → LeavesLive t e
+        → IsPlacedIn r.core.placed r.core.tables t k entry
+        → IsPlacedIn (next_of r.core e).placed (next_of r.core e).tables t k entry
+    placed_still t k entry leaves P = let live = live_still r.core e may t leaves in
+        let late = P.late in record {
+          memtable = P.memtable;
+          ring = P.ring;
+          among = placed_stays r.core e
+              (record { table = t; entry = entry; memtable = P.memtable }) P.among;
+          late = omega arith;
+        }
 
   module _ (id w : ℕ) (v : View) (at : get_elem? s.views id ≡ some v)
       (mine : v.role ≡ Steps w) where
@@ -137,7 +140,7 @@ module _ {K : Type 0} (shows : K → Lasting) (o : Beside) (size : PathSize) (s 
     RunsOn e v' = (z t k : ℕ) (n : EntryNote) → t < 16
         → Contains (r.memtables.contents (memtable_box size.seats z t k)) n
         → IsRunning s.views z n.end.0
-        → IsPlacedIn (next_of r.core e).placed t k n.end.0
+        → IsPlacedIn (next_of r.core e).placed (next_of r.core e).tables t k n.end.0
         ⊎ IsRunning (set s.views id v') z n.end.0
 
     pub known : (v.size ≡ size) × IsSeat r.core r.events r.owner r.made r.boss id w v.part v.trail
@@ -282,19 +285,20 @@ module _ {K : Type 0} (shows : K → Lasting) (o : Beside) (size : PathSize) (s 
           → h.reading ≡ v.hands.reading → h.applied ≡ v.hands.applied
           → PutsAre r.memtables.contents size.seats w v'.part h
           → ((p : Placed) → Contains x'.placed p → IsKeptAt x'.tables p → LiesPlaced p)
-          → RunsOn e v' → MemtablesThen cs a
-      memtables_then cs a below held read applied puts kept runs = memtables_stay size.seats
+          → RunsOn e v' → ((t : ℕ) → LeavesLive t e) → MemtablesThen cs a
+      memtables_then cs a below held read applied puts kept runs live = memtables_stay size.seats
           r.core.notes x'.notes r.core.placed x'.placed r.core.tables x'.tables s.homes s.views
           r.memtables id v v' at (notes_stay r.core e) (homes_after s.homes cs a)
           (same_above (boxes size.seats) s.homes cs a below) held read applied
           (subst (PutsAs r.memtables.contents size.seats v'.part h) (sym mine) puts) kept
-          (λ z t k n few q. ⊎_elim (λ p. inl (placed_still e may built t k n.end.0 p))
+          (λ z t k n few q. ⊎_elim (λ p. inl (placed_still e may built t k n.end.0 (live t) p))
           (λ R. runs z t k n few q R) (r.memtables.settled z t k n few q))
 
       -- and the seat's write stays
       pub memtables_still : (cs : List (ℕ × Slot K)) (a : Act (Slot K)) → LeavesWrite e
-          → SameHeld v.hands h → MovesBelow (boxes size.seats) cs a → MemtablesThen cs a
-      memtables_still cs a leaves held below = memtables_then cs a below held.0 held.3 held.2
+          → SameHeld v.hands h → MovesBelow (boxes size.seats) cs a → LeavesReading v.hands e
+          → MemtablesThen cs a
+      memtables_still cs a leaves held below quiet = memtables_then cs a below held.0 held.3 held.2
           (puts_stay r.memtables.contents size.seats w v.part v'.part v.hands h
           (columns_now.note ∙ note_left v.part.note e leaves)
           (columns_now.claim ∙ claim_left v.part.claim e leaves)
@@ -302,6 +306,7 @@ module _ {K : Type 0} (shows : K → Lasting) (o : Beside) (size : PathSize) (s 
           held puts_now) (still_kept e may built (placed_left r.core e leaves))
           (λ z t k n few q R. inr (runs_still s.views id v v' at refl
           (columns_now.claim ∙ claim_left v.part.claim e leaves) z n.end.0 R))
+          (leaves_live v.hands e quiet)
 
       -- what holders of Flush turns have read
       abbrev pub ReadsThen : Type 0
@@ -322,10 +327,10 @@ module _ {K : Type 0} (shows : K → Lasting) (o : Beside) (size : PathSize) (s 
           (at_set s.views id j v' u p)
         where
           -- it holds the turn of the table, so the step retires no memtable of it
-          leaves_live : (d : Event) → IsStep r.core d → by_of d ≡ w → j ≢ id
+          keeps_live : (d : Event) → IsStep r.core d → by_of d ≡ w → j ≢ id
               → get_elem? s.views j ≡ some u → (z : ℕ) → u.role ≡ Steps z → (q : FlushRead)
               → ReadsAre size.seats r.core u.part q → LeavesLive q.table d
-          leaves_live (Put y (OldestLive t) value) a is apart there z role q R = λ same.
+          keeps_live (Put y (OldestLive t) value) a is apart there z role q R = λ same.
               let mine' = (subst (λ ρ. Knows r.core r.events r.owner r.made r.boss j ρ u.part
               u.trail u.returned) role (r.each_seat j u there).1).0 in
               apart (sym mine'.1 ∙ (ap r.owner (core_lawful.orders.one_holder_a_turn.one (Flush t)
@@ -334,9 +339,9 @@ module _ {K : Type 0} (shows : K → Lasting) (o : Beside) (size : PathSize) (s 
               ∙ R.held))
               (subst (λ (k : ℕ). is_some (seat_table (seat_of r.core k) t.0).flush ≡ true) is
               a.row.0)) ∙ known.1.1))
-          leaves_live (Put y Synced value) a is apart there z role q R = tt
-          leaves_live (Put y Stopped value) a is apart there z role q R = tt
-          leaves_live d a is apart there z role q R = tt
+          keeps_live (Put y Synced value) a is apart there z role q R = tt
+          keeps_live (Put y Stopped value) a is apart there z role q R = tt
+          keeps_live d a is apart there z role q R = tt
 
           other : j ≢ id → get_elem? s.views j ≡ some u → (ρ : Role) → u.role ≡ ρ
               → ReadsAs size.seats r.core u.part u.hands ρ → ReadsAs size.seats x' u.part u.hands ρ
@@ -344,7 +349,7 @@ module _ {K : Type 0} (shows : K → Lasting) (o : Beside) (size : PathSize) (s 
           other apart there Spent is R = R
           other apart there (Steps z) is R = λ q has. reads_on r.core core_lawful e may next_lawful
               size.seats u.part u.part q (R q has) (R q has).held
-              (live_still r.core e may q.table (leaves_live e may by apart there z is q (R q has)))
+              (live_still r.core e may q.table (keeps_live e may by apart there z is q (R q has)))
 
       -- and that of the seat, where the step leaves it
       pub reads_still : LeavesReading v.hands e → h.reading ≡ v.hands.reading → ReadsThen
@@ -352,15 +357,8 @@ module _ {K : Type 0} (shows : K → Lasting) (o : Beside) (size : PathSize) (s 
           let R = reads_now q before in
           reads_on r.core core_lawful e may next_lawful size.seats v.part v'.part q R
           (held_stays e v.part v'.part columns_now q.table (leaves_turn e leaves q before) R.held)
-          (live_still r.core e may q.table (leaves_live e leaves q)))
+          (live_still r.core e may q.table (leaves_live v.hands e leaves q.table)))
         where
-          leaves_live : (d : Event) → LeavesReading v.hands d → (q : FlushRead)
-              → LeavesLive q.table d
-          leaves_live (Put y (OldestLive t) value) leaves q = absurd leaves
-          leaves_live (Put y Synced value) leaves q = tt
-          leaves_live (Put y Stopped value) leaves q = tt
-          leaves_live d leaves q = tt
-
           leaves_turn : (d : Event) → LeavesReading v.hands d → (q : FlushRead)
               → v.hands.reading ≡ Some q → LeavesTurn q.table d
           leaves_turn (GiveTurn by (Flush t)) leaves q has = leaves q has
@@ -457,7 +455,7 @@ module _ {K : Type 0} (shows : K → Lasting) (o : Beside) (size : PathSize) (s 
           → Ruled shows o size (stepped s (word_at (place_of e)) n id cs v' a)
       plays_filed true_told key may_be put gone filing cs a boxed leaves held below quiet =
           plays_all true_told key may_be put gone filing cs a boxed
-          (memtables_still cs a leaves held below) (reads_still quiet held.3)
+          (memtables_still cs a leaves held below quiet) (reads_still quiet held.3)
 
       -- and nothing was filed or dropped
       pub plays_to : ToldTrue r.core e found filed → (key : ℕ) → MayBeKept x' key

@@ -1,7 +1,7 @@
 -- The holder of a Flush turn looks at the bound of the memtable that it reads, which is final.
 use Rattle.std.proofs.lemmas.Option.{same_Some}
 use Rattle.std.proofs.Common.{◌%◌, ◌≡◌, ℕ, ◌+◌, ◌*◌, ◌<◌, Some, refl, sym, ap, ◌∙◌, subst, arith}
-use Rattle.std.proofs.Common.{None}
+use Rattle.std.proofs.Common.{false, None}
 use Rattle.std.specs.Prelude.{slice_index}
 use mathlib.Core.Option.{none}
 use Rattle.atomic_table.specs.Table.{Me, step, Allows}
@@ -26,6 +26,7 @@ use Rattle.path_rule.specs.Layout.{bound_word, reading_at}
 use Rattle.path_rule.specs.Rule.{Ruled, told_by, view_after}
 use Rattle.path_rule.specs.Told.{Made}
 use Rattle.path_rule.proofs.boxes.HeldBoxes.{boxed_stay}
+use Rattle.path_rule.proofs.boxes.ReadsStay.{read_live}
 use Rattle.path_rule.proofs.moves.BoundSteps.{each_bound_name}
 use Rattle.path_rule.proofs.moves.Looks.{acts, few_tables, within}
 use Rattle.path_rule.proofs.moves.Moving.{core_lawful, reads_now}
@@ -35,17 +36,18 @@ use Rattle.path_rule.proofs.places.ReadBack.{bound_read, rows_stay}
 module _ {K : Type 0} (shows : K → Lasting) (o : Beside) (size : PathSize) (slots id : ℕ)
     (m : Me (Slot K) View) (w : ℕ) (mine : m.0.role ≡ Steps w) where
   pub looks_read : (t : Table) (k : ℕ) (q : FlushRead) → m.0.hands.reading ≡ Some q
-      → q.table ≡ t.0 → q.memtable ≡ k → t.0 < 16 → t.0 < m.0.size.tables
+      → q.table ≡ t.0 → q.memtable ≡ k → q.retired ≡ false → t.0 < 16 → t.0 < m.0.size.tables
       → Allows (Ruled shows o size) slots id m (136 + 16 * (k % 4) + t.0) (λ n. n)
       (BoundRead (step slots (136 + 16 * (k % 4) + t.0) 0 0 none) m)
-  looks_read t k q reads at of few inside s r _ there _ =
+  looks_read t k q reads at of unretired few inside s r _ there _ =
       let n = slice_index s.words (136 + 16 * (k % 4) + t.0) in let x = r.core in
       let e = Look w (Bound t k) in let L = core_lawful shows o size s r in
       let R = reads_now shows o size s r id w m.0 there mine q reads in
       let passed = subst (λ (y : ℕ × ℕ). HasPassedBarrier x y.0 y.1) (λ i. (at i, of i))
       R.passed in let W = L.switches.tables t.0 in
       let live : (table_of x t.0).oldest_live ≡ k =
-      ap (λ (c : ℕ). (table_of x c).oldest_live) (sym at) ∙ (R.live ∙ of) in
+      ap (λ (c : ℕ). (table_of x c).oldest_live) (sym at)
+      ∙ (read_live size.seats x m.0.part q R unretired ∙ of) in
       let made = W.bounds_rise.made in let least = W.bounds_rise.oldest_is_made in
       let f = final_at (memtable_of x t.0 k).bound
       (W.barrier_means_final k passed.group passed.issued) in

@@ -34,11 +34,13 @@ use Rattle.path_rule.specs.Rule.{Ruled, Was, told_by, view_after, with_hands}
 use Rattle.path_rule.specs.Told.{MadeAs}
 use Rattle.path_rule.proofs.boxes.MemtableReads.{read_still, retabled}
 use Rattle.path_rule.proofs.boxes.OtherBoxes.{boxed_other}
+use Rattle.path_rule.proofs.boxes.ReadsStay.{read_live}
 use Rattle.path_rule.proofs.boxes.SeenInterval.{all_seen}
 use Rattle.path_rule.proofs.log.RestsEmpty.{rests_empty}
 use Rattle.path_rule.proofs.moves.Looks.{few_tables, within}
 use Rattle.path_rule.proofs.moves.Moving.{columns_now, core_lawful, kept_before, part_is}
 use Rattle.path_rule.proofs.moves.Moving.{place_still, plays_with, reads_now, reads_then, was}
+use Rattle.path_rule.proofs.moves.RetiredBoxes.{late_still}
 use Rattle.path_rule.proofs.moves.TableTurns.{each_table_name}
 use Rattle.path_rule.proofs.places.ReadBack.{rows_stay}
 
@@ -63,13 +65,14 @@ module _ {K : Type 0} (shows : K → Lasting) (o : Beside) (size : PathSize) (sl
       let law = core_lawful shows o size s r in
       let R = reads_now shows o size s r id w m.0 there mine q sees.1 in
       let live : (table_of x t.0).oldest_live ≡ k =
-      ap (λ (c : ℕ). (table_of x c).oldest_live) (sym sees.2) ∙ (R.live ∙ sees.3) in
+      ap (λ (c : ℕ). (table_of x c).oldest_live) (sym sees.2)
+      ∙ (read_live size.seats x m.0.part q R sees.7 ∙ sees.3) in
       let passed : HasPassedBarrier x t.0 k = subst (λ (y : ℕ × ℕ). HasPassedBarrier x y.0 y.1)
       (λ i. (sees.2 i, sees.3 i)) R.passed in
       let empty : is_empty x t.0 (table_of x t.0).oldest_live ≡ true =
       subst (λ (c : ℕ). is_empty x t.0 c ≡ true) (sym live) (rests_empty x law t.0 k passed
-      (λ entry placed. let seen = all_seen shows o size s r id w m.0 q there mine sees.1 sees.5
-      entry (subst (λ (y : ℕ × ℕ).
+      (λ entry placed. let seen = all_seen shows o size s r id w m.0 q there mine sees.1 sees.7
+      sees.5 entry (subst (λ (y : ℕ × ℕ).
       Contains x.placed (record { table = y.0; entry = entry; memtable = y.1 }))
       (λ i. (sym sees.2 i, sym sees.3 i)) placed) in
       absurd (let l = (subst (λ (c : List EntryNote). Contains c seen.0) sees.6 seen.1).1 in
@@ -102,14 +105,16 @@ module _ {K : Type 0} (shows : K → Lasting) (o : Beside) (size : PathSize) (sl
             x) x.claims
             x.append s.homes s.views r.boxed id m.0 v' there refl s.homes (λ b l. refl) C.append
             C.issue m.0.hands.memtable_box m.0.hands.held m.0.hands.applied None refl)
-            (retabled size.seats x.notes x.placed x.tables (next_of x e).tables s.homes _
-            (read_still size.seats x.notes x.placed x.tables s.homes s.views r.memtables id w m.0 v'
-            there mine refl C.note C.claim
+            (read_still size.seats x.notes x.placed (next_of x e).tables s.homes s.views
+            (retabled size.seats x.notes x.placed x.tables (next_of x e).tables s.homes s.views
+            r.memtables (kept_before shows o size s r e may tt)
+            (late_still shows o size s r id w m.0 there mine q sees.1 sees.7 t sees.2 f may)) id w
+            m.0 v' there mine refl C.note C.claim
             (place_still shows o size s r id w m.0 there mine e (Number 0) (told_by None h) tt)
             None refl (λ z b is taken. absurd (none-some z is))
+            (λ z y j is bare. absurd (none-some z is))
             (λ b Q. none-some b (sym (ap (λ (z : FlushRead). z.taken)
             (same_reading Q.0 q Q.1 sees.1) ∙ sees.4) ∙ Q.2)))
-            (kept_before shows o size s r e may tt))
             (reads_then shows o size s r id w m.0 there mine e refl may tt tt few tt rows f
             f None h refl told (λ z is. absurd (none-some z is))),
         λ z u role _ word. each_table_name shows o size slots id m w mine 10 t

@@ -286,7 +286,7 @@ module _ (x : PathState) (L : IsLawfulPath x) where
       (λ n. omega arith))
 
 -- Which memtables are near: those that writes try, the one below the newest, and the least that is
--- not retired with the one below it.
+-- not retired.
 module _ (x : PathState) (L : IsLawfulPath x) where
   pub tries_near : (w t m : ℕ) → (seat_table (seat_of x w) t).trying ≡ Some m → IsNear x t m
   tries_near w t m try = let T = L.places.tries w t in let n = T.of_note m try in
@@ -298,10 +298,6 @@ module _ (x : PathState) (L : IsLawfulPath x) where
 
   pub least_near : (t m : ℕ) → m ≡ (table_of x t).oldest_live → IsNear x t m
   least_near t m is = let B = (L.switches.tables t).bounds_rise in let a = B.oldest_is_made in
-      let b = B.one_behind in inl (omega arith, omega arith)
-
-  pub next_near : (t m : ℕ) → suc m ≡ (table_of x t).oldest_live → IsNear x t m
-  next_near t m is = let B = (L.switches.tables t).bounds_rise in let a = B.oldest_is_made in
       let b = B.one_behind in inl (omega arith, omega arith)
 
   staged_near : (t m : ℕ) (k : Switching) → StageIs x t k → StagedAt k m → IsNear x t m

@@ -115,6 +115,7 @@ module _ {K : Type 0} (shows : K → Lasting) (o : Beside) where
       sound = λ w t m n _ h. absurd (let l = h.1 in omega arith);
       settled = λ w t m n _ h. absurd (let l = h.1 in omega arith);
       once = λ k b. omega arith;
+      within = λ b n h. absurd (let l = h.1 in omega arith);
       noted = λ j u e. first_noted j u e;
     };
     reads = λ j u e. first_reads j u e;

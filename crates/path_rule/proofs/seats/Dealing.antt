@@ -105,6 +105,7 @@ module _ {K : Type 0} (shows : K → Lasting) (o : Beside) (size : PathSize) (id
       running = λ q t m e. absurd (none-some q e);
       placed = λ a q h. absurd (let l = h.1 in omega arith);
       reads = λ q b e. absurd (none-some q e);
+      emptied = λ q y j e. absurd (none-some q e);
     }
 
     abbrev Noted : View → Type 0
