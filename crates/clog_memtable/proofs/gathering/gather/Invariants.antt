@@ -1,5 +1,4 @@
-use Rattle.std.proofs.Common.{◌≡◌, ◌++◌, nat_lt, List}
-use Rattle.std.specs.List.{filter}
+use Rattle.std.proofs.Common.{◌≡◌, ◌++◌, List}
 use Rattle.path_core.specs.declared.note.EntryNote.{EntryNote}
 use Rattle.clog_memtable.specs.Gathering.{IsGathered}
 use Rattle.clog_memtable.proofs.gathering.gather.Given as goal
@@ -10,6 +9,5 @@ invariant-loop-note l = record {
   done : List EntryNote;
   parts : done ++ l.note-iterator ≡ l.notes;
   gathered : (before : List EntryNote) → IsGathered l.table before l.initial.cells
-      → IsGathered l.table (before ++ filter (λ (n : EntryNote). nat_lt l.above.0 n.end.0) done)
-      l.cells;
+      → IsGathered l.table (before ++ done) l.cells;
 }
