@@ -121,9 +121,9 @@ impl<K: Keeper, A: Allocator> PathTable<K, A> {
     {
         let own = 1
             + 2 * self.size.seats
-            + 32 * u64::from(member.number)
-            + 2 * u64::from(table.0)
-            + memtable % 2;
+            + 64 * u64::from(member.number)
+            + 4 * u64::from(table.0)
+            + memtable % 4;
         let mut member = member;
         self.take_memtable(&mut member, table, memtable);
         let mut member = self.put_held(member, own as usize, copy);

@@ -1,100 +1,75 @@
 //! What a memtable holds is read, behind its barrier, by the holder of its table's Flush turn: it
-//! takes the boxes of all seats one by one, and gives each back. A box may hold what a retired
-//! memtable of the same parity left there: that is no part of what is read, and may go. The looks
-//! at which a box moves are at the table's newest memtable, a word that hardly ever changes.
-ghost use Rattle.std.specs.Prelude.{◌^◌, ◌≡◌, ℕ, suc, ◌+◌, ◌<◌, List, [], Some, None};
+//! takes the boxes of all seats one by one, and gives each back. Before that it empties those of
+//! the memtable below, which is retired, in the same way. The looks at which a box moves are at the
+//! table's newest memtable, a word that hardly ever changes.
+ghost use Rattle.std.specs.Prelude.{◌^◌, ◌≡◌, ℕ, suc, ◌+◌, ◌<◌, true, false, List, [], Some};
 ghost use Rattle.atomic_table.specs.Table.{rest};
 ghost use Rattle.path_core.specs.declared.event.Cursor.TheVariants.{OldestLive};
 ghost use Rattle.path_core.specs.declared.event.Event.TheVariants.{Look, Put};
-ghost use Rattle.path_core.specs.declared.event.Place.TheVariants.{Bound, Newest};
+ghost use Rattle.path_core.specs.declared.event.Place.TheVariants.{Newest};
 ghost use Rattle.path_core.specs.declared.note.EntryNote.{EntryNote};
-ghost use Rattle.path_core.specs.declared.state.Bound.TheVariants.{Final};
 ghost use Rattle.path_rule.specs.declared.view.FlushRead.{FlushRead};
-ghost use Rattle.path_rule.specs.Flushes.{next_box, place_below, BeginsAbove, MayRead, SeesNone};
-ghost use Rattle.path_rule.specs.Flushes.{TakesNone, TookRead};
-ghost use Rattle.path_rule.specs.HandsAfter.{box_read, box_seen, first_read, with_reading};
-ghost use Rattle.path_rule.specs.Layout.{bound_word};
+ghost use Rattle.path_rule.specs.Flushes.{next_box, HasEmptied, MayRead, SeesNone, TakesNone};
+ghost use Rattle.path_rule.specs.Flushes.{TookRead};
+ghost use Rattle.path_rule.specs.HandsAfter.{box_read, box_seen, first_read, left_in};
+ghost use Rattle.path_rule.specs.HandsAfter.{with_reading};
 ghost use Rattle.path_rule.specs.Retires.{RetiresEmptyIn};
 ghost use Rattle.path_rule.specs.Rule.{Was};
 ghost use Rattle.path_rule.specs.Switches.{FlushOldest, MayBeginRead};
 ghost use Rattle.path_rule.specs.Told.{CarriesNotes};
-ghost use Rattle.path_rule.specs.Trimmed.{IsTrimmed};
 ghost use Rattle.path_table.specs.Members.{view_of, part_of, hands_of, boxes_of, IsOf, IsSame};
 ghost use Rattle.path_table.specs.Members.{KeepsBoxes, PutsBack, SteppedAs};
 
 use crate::table::{Member, PathTable};
-use crate::words::{BOUNDS, FINAL, NEWEST, OLDEST_LIVE};
+use crate::words::{NEWEST, OLDEST_LIVE};
 use clog_base::Table;
 use path_core::{EntryNote, Keeper};
-use path_rule::{BeginFirst, BeginNext, EndRead, GiveRead, RetireEmpty, Slot, TakeRead};
+use path_rule::{BeginEmptying, BeginRead, EndRead, GiveRead, RetireEmpty, Slot, TakeRead};
 use std::alloc::{Allocator, Global};
 use std::collections::LinkedList;
 use std::mem::replace;
 
 impl<K: Keeper, A: Allocator> PathTable<K, A> {
-    // Begins to read the first memtable of a table. There is none below.
-    fn begin_first(&self, member: &mut Member<K>, table: Table) -> u64
+    /// Begins to empty the boxes of the last retired memtable of a table: what was written to it is
+    /// read by nobody any more. The next one is the least that is not retired, and its barrier is
+    /// passed: the member issued it, or an earlier holder of the table's Flush turn did, and left
+    /// the memtable. Returns the number of the newest memtable.
+    pub fn begin_emptying(&self, member: &mut Member<K>, table: Table, memtable: u64) -> u64
         requires table { IsOf self.now.table.shared.table_id self.now.size member.old }
         requires there { table.0 < self.now.size.tables }
-        requires stage { MayBeginRead table.0 (view_of member.old) 0 }
-        requires oldest { FlushOldest table.0 (part_of member.old) 0 }
+        requires stage { MayBeginRead table.0 (view_of member.old) (suc memtable) }
+        requires oldest { FlushOldest table.0 (part_of member.old) (suc memtable) }
         requires unread { TakesNone (hands_of member.old) }
         ensures same { KeepsBoxes member.old member.new }
         ensures step { SteppedAs member.old (Look member.old.number (Newest table)) result
-            (with_reading (Some (first_read table.0 0 0)) (hands_of member.old)) member.new }
+            (with_reading (Some (first_read table.0 memtable true)) (hands_of member.old))
+            member.new }
     {
         self.table
             .shared
-            .load::<BeginFirst<K>>(&mut member.seat, NEWEST + 4 * table.0 as usize)
-    }
-
-    // Begins to read the memtable behind a retired one, whose final bound it finds.
-    fn begin_next(&self, member: &mut Member<K>, table: Table, below: u64) -> u64
-        requires table { IsOf self.now.table.shared.table_id self.now.size member.old }
-        requires there { (table.0 < self.now.size.tables) × (below < 2 ^ 47) }
-        requires stage { MayBeginRead table.0 (view_of member.old) (suc below) }
-        requires oldest { FlushOldest table.0 (part_of member.old) (suc below) }
-        requires unread { TakesNone (hands_of member.old) }
-        ensures same { KeepsBoxes member.old member.new }
-        ensures step { SteppedAs member.old (Look member.old.number (Bound table below))
-            (bound_word (Final (record { 0 = result })))
-            (with_reading (Some (first_read table.0 (suc below) result)) (hands_of member.old))
-            member.new }
-    {
-        let word = self.table.shared.load::<BeginNext<K>>(
-            &mut member.seat,
-            BOUNDS + 16 * (below % 4) as usize + table.0 as usize,
-        );
-        word - FINAL
+            .load::<BeginEmptying<K>>(&mut member.seat, NEWEST + 4 * table.0 as usize)
     }
 
     /// Begins to read the least memtable of a table that is not retired, whose barrier is passed:
-    /// nothing more is placed in it. The member issued the barrier, or an earlier holder of the
-    /// table's Flush turn did, and left the memtable. Returns the key above which its interval
-    /// begins: the final bound of the memtable below, which is retired, or 0 where there is none.
+    /// nothing more is placed in it. The boxes of the one below, where there is one, are emptied.
+    /// Returns the number of the newest memtable.
     pub fn begin_read(&self, member: &mut Member<K>, table: Table, memtable: u64) -> u64
         requires table { IsOf self.now.table.shared.table_id self.now.size member.old }
-        requires there { (table.0 < self.now.size.tables) × (memtable < 2 ^ 47) }
-        requires stage { MayBeginRead table.0 (view_of member.old) memtable }
+        requires there { table.0 < self.now.size.tables }
         requires oldest { FlushOldest table.0 (part_of member.old) memtable }
-        requires unread { TakesNone (hands_of member.old) }
+        requires emptied { HasEmptied self.now.size.seats (view_of member.old) table.0 memtable }
         ensures same { KeepsBoxes member.old member.new }
-        ensures step { (found : ℕ) × BeginsAbove memtable found result
-            × SteppedAs member.old (Look member.old.number (place_below table memtable)) found
-            (with_reading (Some (first_read table.0 memtable result)) (hands_of member.old))
+        ensures step { SteppedAs member.old (Look member.old.number (Newest table)) result
+            (with_reading (Some (first_read table.0 memtable false)) (hands_of member.old))
             member.new }
     {
-        if memtable == 0 {
-            self.begin_first(member, table);
-            0
-        } else {
-            self.begin_next(member, table, memtable - 1)
-        }
+        self.table
+            .shared
+            .load::<BeginRead<K>>(&mut member.seat, NEWEST + 4 * table.0 as usize)
     }
 
-    /// Takes the box of the next seat, to look at what is in it: notes, each of which is whole. The
-    /// box may hold what a retired memtable of the same parity left there. Returns the number of
-    /// the newest memtable.
+    /// Takes the box of the next seat, to look at what is in it: notes, each of which is whole.
+    /// Returns the number of the newest memtable.
     pub fn take_read(&self, member: &mut Member<K>, table: Table) -> u64
         requires table { IsOf self.now.table.shared.table_id self.now.size member.old }
         requires there { table.0 < self.now.size.tables }
@@ -180,15 +155,13 @@ impl<K: Keeper, A: Allocator> PathTable<K, A> {
         }
     }
 
-    /// Gives that box back: what lay in it of the memtable was seen. Notes in front that end at or
-    /// below the key above which the memtable's interval begins may be gone: a retired memtable
-    /// left them there.
+    /// Gives that box back: what lay in it was seen. It lies there still, unless the memtable is
+    /// retired: then the box is empty.
     pub fn give_read(&self, member: &mut Member<K>, table: Table) -> u64
         requires table { IsOf self.now.table.shared.table_id self.now.size member.old }
         requires there { table.0 < self.now.size.tables }
-        requires reads { (q : FlushRead) × (b : ℕ) × (left : List EntryNote)
-            × ((hands_of member.old).reading ≡ Some q) × (q.taken ≡ Some b)
-            × IsTrimmed q.above q.held left × CarriesNotes b left member.old.seat.me }
+        requires reads { (q : FlushRead) × (b : ℕ) × ((hands_of member.old).reading ≡ Some q)
+            × (q.taken ≡ Some b) × CarriesNotes b (left_in q) member.old.seat.me }
         ensures same { PutsBack member.old member.new }
         ensures step { (q : FlushRead) → (hands_of member.old).reading ≡ Some q
             → SteppedAs member.old (Look member.old.number (Newest table)) result

@@ -24,7 +24,7 @@ fn empty_boxes<K: Keeper + Drop>(alloc: Global, size: &PathSize) -> Result<Vec<S
     ensures { IfOk result (λ v. (length v.items ≡ all_boxes size.now.seats) × AreEmpty v.items) }
 {
     let mut boxes = Vec::new(alloc);
-    for _ in 0..1 + 34 * size.seats {
+    for _ in 0..1 + 66 * size.seats {
         boxes.push(Slot::Notes(LinkedList::new(alloc)))?;
     }
     Ok(boxes)
@@ -49,7 +49,7 @@ fn first_desk<K>(alloc: Global, keeper: K) -> Desk<K>
     }
 }
 
-// The boxes of a new table: the keeper's desk, and for each seat two for the log and two for each
+// The boxes of a new table: the keeper's desk, and for each seat two for the log and four for each
 // of sixteen tables.
 fn first_boxes<K: Keeper + Drop>(
     alloc: Global,

@@ -1,5 +1,5 @@
 //! The bound of the memtable that the holder of a Flush turn reads.
-ghost use Rattle.std.specs.Prelude.{◌^◌, ◌≡◌, ◌<◌, Some};
+ghost use Rattle.std.specs.Prelude.{◌^◌, ◌≡◌, ◌<◌, false, Some};
 ghost use Rattle.path_core.specs.declared.event.Event.TheVariants.{Look};
 ghost use Rattle.path_core.specs.declared.event.Place.TheVariants.{Bound};
 ghost use Rattle.path_core.specs.declared.state.Bound.TheVariants.{Final};
@@ -34,7 +34,7 @@ impl<K: Keeper, A: Allocator> PathTable<K, A> {
         requires table { IsOf self.now.table.shared.table_id self.now.size member.old }
         requires there { (table.0 < self.now.size.tables) × (memtable < 2 ^ 47) }
         requires reads { (q : FlushRead) × ((hands_of member.old).reading ≡ Some q)
-            × (q.table ≡ table.0) × (q.memtable ≡ memtable) }
+            × (q.table ≡ table.0) × (q.memtable ≡ memtable) × (q.retired ≡ false) }
         ensures same { KeepsBoxes member.old member.new }
         ensures step { Stepped member.old (Look member.old.number (Bound table memtable))
             (bound_word (Final result)) member.new }

@@ -1,31 +1,48 @@
-use Rattle.std.proofs.Common.{◌≡◌, ◌-◌, ℕ, suc, Some, refl, sym, subst, arith}
-use Rattle.path_core.specs.declared.event.Event.TheVariants.{Look}
-use Rattle.path_core.specs.declared.state.Bound.TheVariants.{Final}
-use Rattle.path_rule.specs.Calls.{DidAs}
-use Rattle.path_rule.specs.Flushes.{place_below, BeginsAbove}
-use Rattle.path_rule.specs.HandsAfter.{first_read, with_reading}
-use Rattle.path_rule.specs.Layout.{bound_word}
-use Rattle.path_rule.specs.Switches.{MayBeginRead}
+use Rattle.std.proofs.Common.{◌<◌, refl, sym, ap, ◌∙◌, subst, arith}
+use Rattle.path_rule.specs.declared.view.PathSize.{PathSize}
+use Rattle.path_rule.specs.declared.view.View.{View}
+use Rattle.path_rule.specs.Flushes.{HasEmptied}
+use Rattle.path_rule.specs.Lasts.{beside_of, shows_of}
+use Rattle.path_rule.proofs.moves.ReadSteps.{begins_read}
+use Rattle.path_rule.specs.Issued.{issued_in}
 use Rattle.path_table.proofs.table.PathTable.begin_read.Goals as goal
 
-pub begin_first-requires-clause-stage : goal.begin_first-requires-clause-stage
-begin_first-requires-clause-stage g c = let is = c.if-memtable-eq0.true in
-    let first : c.args.memtable ≡ 0 = omega arith in
-    subst (λ (k : ℕ). MayBeginRead c.args.table.0 c.args.member.now.seat.me.0 k) first
-    c.requires.stage
+pub load-requires : goal.load-requires
+load-requires g c = let t = c.args.self.now in let m = c.args.member.now in
+    let k = t.table.shared.key.size in
+    let o = beside_of (g.K.Keeper.holds t.table.shared.key.first.value) in let wide = t.wide in
+    let few = t.fits.few_tables in let there = c.requires.there in
+    let emptied = subst (λ (z : PathSize). HasEmptied z.seats m.seat.me.0 c.args.table.0
+    c.args.memtable) (sym t.keyed) c.requires.emptied in (
+      c.requires.table.0,
+      omega arith,
+      begins_read (shows_of g.K.Keeper.holds) o k t.table.shared.table_id.slots m.seat.id
+          m.seat.me m.number m.role c.args.table c.args.memtable
+          c.requires.oldest emptied
+          (omega arith)
+          (subst (λ (z : PathSize). c.args.table.0 < z.tables) (sym c.requires.table.1) there),
+    )
 
-pub begin_next-requires-clause-stage : goal.begin_next-requires-clause-stage
-begin_next-requires-clause-stage g c = let some = c.if-memtable-eq0.false in
-    let up : suc (c.args.memtable - 1) ≡ c.args.memtable = omega arith in
-    subst (λ (k : ℕ). MayBeginRead c.args.table.0 c.args.member.now.seat.me.0 k) (sym up)
-    c.requires.stage
+pub invariant_of-member : goal.invariant_of-member
+invariant_of-member g c = let m = c.args.member.now in
+    let few = c.args.self.now.fits.few_tables in let there = c.requires.there in
+    let d = c.load.ensures.2 m.number c.args.memtable c.args.table m.role (omega arith) refl
+    c.requires.oldest in
+    record {
+      role = ap (λ (v : View). v.role) d.0.0 ∙ m.role;
+      counted = m.counted ∙ sym (ap (λ (v : View). issued_in v.trail) d.0.0);
+    }
 
-pub returns-else-memtable-eq0-clause-step : goal.returns-else-memtable-eq0-clause-step
-returns-else-memtable-eq0-clause-step g c = let m = c.args.member.now in
-    let above = c.begin_next.result in let some = c.if-memtable-eq0.false in
-    let up : suc (c.args.memtable - 1) ≡ c.args.memtable = omega arith in
-    subst (λ (k : ℕ). (found : ℕ) × BeginsAbove k found above
-    × DidAs m.seat.me.0 m.number (Look m.number (place_below c.args.table k)) found
-    (with_reading (Some (first_read c.args.table.0 k above)) m.seat.me.0.hands)
-    c.begin_next.new.member.seat.me.0) up
-    (bound_word (Final (record { 0 = above })), refl, c.begin_next.ensures.step)
+pub returns-clause-same : goal.returns-clause-same
+returns-clause-same g c = let m = c.args.member.now in
+    let few = c.args.self.now.fits.few_tables in let there = c.requires.there in
+    let d = c.load.ensures.2 m.number c.args.memtable c.args.table m.role (omega arith) refl
+    c.requires.oldest in
+    (c.load.ensures.0, refl, d.1)
+
+pub returns-clause-step : goal.returns-clause-step
+returns-clause-step g c = let m = c.args.member.now in
+    let few = c.args.self.now.fits.few_tables in let there = c.requires.there in
+    let d = c.load.ensures.2 m.number c.args.memtable c.args.table m.role (omega arith) refl
+    c.requires.oldest in
+    record { view = d.0.0; was = d.0.1 }

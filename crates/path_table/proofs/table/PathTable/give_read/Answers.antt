@@ -16,16 +16,15 @@ load-requires g c = let t = c.args.self.now in let m = c.args.member.now in
       omega arith,
       gives_read (shows_of g.K.Keeper.holds) o k t.table.shared.table_id.slots m.seat.id
           m.seat.me m.number m.role c.args.table c.requires.reads.0 c.requires.reads.1
-          c.requires.reads.2 c.requires.reads.6.0 (rest m.seat.me.1) c.requires.reads.3
-          c.requires.reads.4 c.requires.reads.5 c.requires.reads.6.1 c.requires.reads.6.2
-          (omega arith)
+          c.requires.reads.4.0 (rest m.seat.me.1) c.requires.reads.2 c.requires.reads.3
+          c.requires.reads.4.1 c.requires.reads.4.2 (omega arith)
           (subst (λ (z : PathSize). c.args.table.0 < z.tables) (sym c.requires.table.1) there),
     )
 
 pub invariant_of-member : goal.invariant_of-member
 invariant_of-member g c = let m = c.args.member.now in let q = c.requires.reads in
     let few = c.args.self.now.fits.few_tables in let there = c.requires.there in
-    let d = c.load.ensures.2 m.number c.args.table q.0 m.role (omega arith) refl q.3 in
+    let d = c.load.ensures.2 m.number c.args.table q.0 m.role (omega arith) refl q.2 in
     record {
       role = ap (λ (v : View). v.role) d.0.0 ∙ m.role;
       counted = m.counted ∙ sym (ap (λ (v : View). issued_in v.trail) d.0.0);
@@ -34,7 +33,7 @@ invariant_of-member g c = let m = c.args.member.now in let q = c.requires.reads 
 pub returns-clause-same : goal.returns-clause-same
 returns-clause-same g c = let m = c.args.member.now in let q = c.requires.reads in
     let few = c.args.self.now.fits.few_tables in let there = c.requires.there in
-    let d = c.load.ensures.2 m.number c.args.table q.0 m.role (omega arith) refl q.3 in
+    let d = c.load.ensures.2 m.number c.args.table q.0 m.role (omega arith) refl q.2 in
     (c.load.ensures.0, refl, d.1)
 
 pub returns-clause-step : goal.returns-clause-step

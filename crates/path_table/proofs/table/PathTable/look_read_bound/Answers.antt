@@ -20,7 +20,7 @@ load-word-requires g c = let t = c.args.self.now in let m = c.args.member.now in
       c.requires.table.0,
       omega arith,
       looks_read (shows_of g.K.Keeper.holds) o k t.table.shared.table_id.slots m.seat.id
-          m.seat.me m.number m.role c.args.table c.args.memtable R.0 R.1 R.2 R.3 (omega arith)
+          m.seat.me m.number m.role c.args.table c.args.memtable R.0 R.1 R.2 R.3 R.4 (omega arith)
           (subst (λ (z : PathSize). c.args.table.0 < z.tables) (sym c.requires.table.1) there),
     )
 
