@@ -5,5 +5,6 @@ pub mod Merging
 pub mod Orders
 pub mod Parted
 pub mod Parts
+pub mod Renewed
 pub mod Sorting
 mod Words

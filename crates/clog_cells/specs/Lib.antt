@@ -1,3 +1,4 @@
 pub mod Batches
+pub mod Lent
 pub mod Merge
 pub mod Parted

@@ -27,10 +27,13 @@ ghost use Rattle.clog_cells.specs.Merge.{
 };
 ghost use Rattle.clog_cells.specs.Parted.{part_below, part_from};
 
+mod lending;
+
 use crate::bulk::map_of;
 use crate::newest::newer;
 use crate::parting::take_below;
 use clog_base::{Cell, CellKey, OutOfMemory, Table, Text};
+pub use lending::LentCell;
 use std::alloc::{AllocFailed, Global};
 use std::collections::BTreeMap;
 use std::marker::Model;

@@ -9,7 +9,7 @@ mod newest;
 mod parting;
 
 pub use batches::CellBatches;
-pub use cell_map::CellMap;
+pub use cell_map::{CellMap, LentCell};
 pub use clog_base::{Cell, CellKey, Kind, OutOfMemory, Table, Text};
 pub use laws::{merge_laws, order_laws, parting_laws};
 pub use newest::newer;

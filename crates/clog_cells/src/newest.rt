@@ -5,7 +5,7 @@ ghost use Rattle.clog_cells.specs.Merge.{cell_cmp, is_newer, kind_rank};
 use clog_base::{Cell, Kind};
 use std::cmp::Ordering;
 
-fn kind_rank(kind: Kind) -> u8
+pub(crate) fn kind_rank(kind: Kind) -> u8
     ensures { result ≡ kind_rank kind }
 {
     match kind {
