@@ -5,3 +5,4 @@ pub mod Payloads
 pub mod Decoding
 pub mod Passed
 pub mod Judged
+pub mod LentReading
