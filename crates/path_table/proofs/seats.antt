@@ -3,3 +3,4 @@ pub mod LastBounds
 pub mod FinalBounds
 pub mod Ends
 pub mod UnderLog
+pub mod LastEnds

@@ -122,6 +122,7 @@ impl<K: Keeper, A: Allocator> PathTable<K, A> {
             mut seat,
             number: by,
             issued,
+            last_end,
         } = member;
         let shared = &self.table.shared;
         let done = match seat.slot_mut(shared, number) {
@@ -135,12 +136,13 @@ impl<K: Keeper, A: Allocator> PathTable<K, A> {
             seat,
             number: by,
             issued,
+            last_end,
         }
     }
 
     /// Leaves the append order with the note of the claimed entry, which lies in the box behind
-    /// what was there (`Allocation.markWritten`). The box goes home.
-    pub fn deposit(&self, member: &mut Member<K>, group: u64) -> u64
+    /// what was there (`Allocation.markWritten`). The box goes home. The entry ends at `end`.
+    pub fn deposit(&self, member: &mut Member<K>, group: u64, end: u64) -> u64
         requires table { IsOf self.now.table.shared.table_id self.now.size member.old }
         requires group { (group < 2 ^ 47) × ((part_of member.old).append ≡ Some group) }
         requires note { (note : EntryNote)
@@ -148,7 +150,7 @@ impl<K: Keeper, A: Allocator> PathTable<K, A> {
             ≡ Some (record { start = note.start.0; end = note.end.0 }))
             × (note.writer.0 ≡ member.old.number)
             × (note.tables < 2 ^ (view_of member.old).size.tables) × IsWhole note
-            × HasDeposit member.old group note }
+            × HasDeposit member.old group note × (note.end.0 ≡ end) }
         ensures same { PutsBack member.old member.new }
         ensures step { (note : EntryNote) → HasDeposit member.old group note
             → Stepped member.old (Close member.old.number Append group (Deposit note)) result
@@ -159,6 +161,7 @@ impl<K: Keeper, A: Allocator> PathTable<K, A> {
             → (a : Placed) → Contains (hands_of member.new).applied a
             → a.entry ≢ note.end.0 }
     {
+        member.last_end = end.max(member.last_end);
         self.table.shared.fetch_sub::<DepositIn<K>>(
             &mut member.seat,
             APPEND_COUNTS + 2 * (group % 32) as usize,

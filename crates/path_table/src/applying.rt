@@ -62,6 +62,7 @@ impl<K: Keeper, A: Allocator> PathTable<K, A> {
             mut seat,
             number: by,
             issued,
+            last_end,
         } = member;
         let shared = &self.table.shared;
         let done = match seat.slot_mut(shared, number) {
@@ -75,6 +76,7 @@ impl<K: Keeper, A: Allocator> PathTable<K, A> {
             seat,
             number: by,
             issued,
+            last_end,
         }
     }
 

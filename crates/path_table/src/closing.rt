@@ -45,6 +45,7 @@ impl<K: Keeper, A: Allocator> PathTable<K, A> {
             seat,
             number: _,
             issued: _,
+            last_end: _,
         } = other;
         self.table.shared.join_seat::<Merge>(&mut first.seat, seat);
     }
@@ -126,6 +127,7 @@ impl<K: Keeper + Drop> PathTable<K, Global> {
             seat,
             number: _,
             issued: _,
+            last_end: _,
         } = member;
         let mut notes = LinkedList::new(alloc);
         let ended = keeper_and_log(table.close_with(seat), &mut notes);

@@ -26,6 +26,7 @@ impl<K: Keeper, A: Allocator> PathTable<K, A> {
             mut seat,
             number,
             issued,
+            last_end,
         } = member;
         let shared = &self.table.shared;
         let progress = match seat.slot_mut(shared, 0) {
@@ -37,6 +38,7 @@ impl<K: Keeper, A: Allocator> PathTable<K, A> {
                 seat,
                 number,
                 issued,
+                last_end,
             },
             progress,
         )
@@ -55,6 +57,7 @@ impl<K: Keeper, A: Allocator> PathTable<K, A> {
             mut seat,
             number,
             issued,
+            last_end,
         } = member;
         let shared = &self.table.shared;
         match seat.slot_mut(shared, 0) {
@@ -65,6 +68,7 @@ impl<K: Keeper, A: Allocator> PathTable<K, A> {
             seat,
             number,
             issued,
+            last_end,
         }
     }
 }

@@ -57,6 +57,7 @@ impl<K: Keeper, A: Allocator> PathTable<K, A> {
             mut seat,
             number,
             issued,
+            last_end,
         } = member;
         let shared = &self.table.shared;
         let upper = match seat.slot_mut(shared, 0) {
@@ -68,6 +69,7 @@ impl<K: Keeper, A: Allocator> PathTable<K, A> {
                 seat,
                 number,
                 issued,
+                last_end,
             },
             Key(upper),
         )
@@ -142,6 +144,7 @@ impl<K: Keeper, A: Allocator> PathTable<K, A> {
             mut seat,
             number,
             issued,
+            last_end,
         } = member;
         let shared = &self.table.shared;
         let done = match seat.slot_mut(shared, 0) {
@@ -153,6 +156,7 @@ impl<K: Keeper, A: Allocator> PathTable<K, A> {
                 seat,
                 number,
                 issued,
+                last_end,
             },
             done,
         )
@@ -229,6 +233,7 @@ impl<K: Keeper, A: Allocator> PathTable<K, A> {
             mut seat,
             number,
             issued,
+            last_end,
         } = member;
         let shared = &self.table.shared;
         let done = match seat.slot_mut(shared, 0) {
@@ -240,6 +245,7 @@ impl<K: Keeper, A: Allocator> PathTable<K, A> {
                 seat,
                 number,
                 issued,
+                last_end,
             },
             done,
         )

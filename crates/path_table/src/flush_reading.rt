@@ -109,6 +109,7 @@ impl<K: Keeper, A: Allocator> PathTable<K, A> {
             mut seat,
             number: by,
             issued,
+            last_end,
         } = member;
         let shared = &self.table.shared;
         let notes = match seat.slot_mut(shared, number) {
@@ -120,6 +121,7 @@ impl<K: Keeper, A: Allocator> PathTable<K, A> {
                 seat,
                 number: by,
                 issued,
+                last_end,
             },
             notes,
         )
@@ -142,6 +144,7 @@ impl<K: Keeper, A: Allocator> PathTable<K, A> {
             mut seat,
             number: by,
             issued,
+            last_end,
         } = member;
         let shared = &self.table.shared;
         match seat.slot_mut(shared, number) {
@@ -152,6 +155,7 @@ impl<K: Keeper, A: Allocator> PathTable<K, A> {
             seat,
             number: by,
             issued,
+            last_end,
         }
     }
 

@@ -100,6 +100,7 @@ impl<K: Keeper, A: Allocator> PathTable<K, A> {
             mut seat,
             number,
             issued,
+            last_end,
         } = member;
         let shared = &self.table.shared;
         let done = match seat.slot_mut(shared, 0) {
@@ -111,6 +112,7 @@ impl<K: Keeper, A: Allocator> PathTable<K, A> {
                 seat,
                 number,
                 issued,
+                last_end,
             },
             done,
         )
@@ -135,6 +137,7 @@ impl<K: Keeper, A: Allocator> PathTable<K, A> {
             mut seat,
             number: by,
             issued,
+            last_end,
         } = member;
         let shared = &self.table.shared;
         let done = match seat.slot_mut(shared, number) {
@@ -148,6 +151,7 @@ impl<K: Keeper, A: Allocator> PathTable<K, A> {
             seat,
             number: by,
             issued,
+            last_end,
         }
     }
 
@@ -165,6 +169,7 @@ impl<K: Keeper, A: Allocator> PathTable<K, A> {
             mut seat,
             number,
             issued,
+            last_end,
         } = member;
         let shared = &self.table.shared;
         let done = match seat.slot_mut(shared, 0) {
@@ -178,6 +183,7 @@ impl<K: Keeper, A: Allocator> PathTable<K, A> {
             seat,
             number,
             issued,
+            last_end,
         }
     }
 
@@ -209,11 +215,13 @@ fn turned_member<K>(member: Member<K>) -> Member<K>
         mut seat,
         number,
         issued,
+        last_end,
     } = member;
     seat.turn();
     Member {
         seat,
         number,
         issued,
+        last_end,
     }
 }

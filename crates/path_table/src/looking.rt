@@ -1,11 +1,10 @@
-//! What a seat that waits for a sync looks at, without the Sync turn: where the log ends, and how
-//! far it is lasting. The synced key only grows, so what is lasting when a seat looks stays so: a
-//! sync made by another seat serves all that wait for a key at or below it
-//! (`CommitLogSegment.waitForSync`).
+//! What a seat that waits for a sync looks at, without the Sync turn: how far the log is lasting.
+//! The synced key only grows, so what is lasting when a seat looks stays so: a sync made by another
+//! seat serves all that wait for a key at or below it (`CommitLogSegment.waitForSync`).
 ghost use Rattle.std.specs.Prelude.{◌≡◌, ℕ};
 ghost use Rattle.path_core.specs.declared.event.Cursor.TheVariants.{Synced};
 ghost use Rattle.path_core.specs.declared.event.Event.TheVariants.{Look};
-ghost use Rattle.path_core.specs.declared.event.Place.TheVariants.{CursorWord, Log};
+ghost use Rattle.path_core.specs.declared.event.Place.TheVariants.{CursorWord};
 ghost use Rattle.path_rule.specs.Rounds.{WroteBelow};
 ghost use Rattle.path_rule.specs.Rule.{Was};
 ghost use Rattle.path_rule.specs.SyncAnswers.{IsDoneBy, MayAnswer};
@@ -18,17 +17,6 @@ use path_rule::{LookAt, SyncAnswer};
 use std::alloc::Allocator;
 
 impl<K: Keeper, A: Allocator> PathTable<K, A> {
-    /// The log key: all that was claimed when the member looked ends at or below it, and so all
-    /// that it wrote.
-    pub fn look_end(&self, member: &mut Member<K>) -> u64
-        requires { IsOf self.now.table.shared.table_id self.now.size member.old }
-        ensures same { KeepsSizes member.old member.new }
-        ensures step { Stepped member.old (Look member.old.number Log) result member.new }
-        ensures wrote { WroteBelow result (view_of member.new).trail }
-    {
-        self.look_log(member)
-    }
-
     /// The synced key: when the member looked, the log was lasting up to there.
     pub fn look_synced(&self, member: &mut Member<K>) -> u64
         requires { IsOf self.now.table.shared.table_id self.now.size member.old }

@@ -154,6 +154,7 @@ impl<K: Keeper, A: Allocator> PathTable<K, A> {
             seat,
             number,
             issued: 0,
+            last_end: 0,
         }
     }
 }

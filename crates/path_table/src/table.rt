@@ -4,6 +4,7 @@ ghost use Rattle.path_rule.specs.declared.view.Role.TheVariants as roles;
 ghost use Rattle.path_rule.specs.Boxes.{all_boxes};
 ghost use Rattle.path_rule.specs.Issued.{issued_in};
 ghost use Rattle.path_rule.specs.Rule.{IsFit};
+ghost use Rattle.path_table.specs.LastEnds.{last_end_in};
 
 use atomic_table::{Seat, Table};
 use path_core::Keeper;
@@ -31,8 +32,11 @@ pub struct Member<K> {
     pub(crate) number: u8,
     /// How many barriers it has issued, of both orders.
     pub(crate) issued: u64,
+    /// The log key at which its last write ends, 0 before the first.
+    pub(crate) last_end: u64,
     pub ghost role: { seat.me.0.role ≡ roles.Steps number },
     pub ghost counted: { issued ≡ issued_in seat.me.0.trail },
+    pub ghost ended: { last_end ≡ last_end_in seat.me.0.trail },
 }
 
 /// The seat of the table that hands out the others.

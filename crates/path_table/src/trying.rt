@@ -6,6 +6,7 @@ ghost use Rattle.path_core.specs.declared.event.Event.TheVariants.{Close};
 ghost use Rattle.path_core.specs.declared.event.Place.TheVariants.{Count};
 ghost use Rattle.path_core.specs.Parts.{HoldsNoTurn, IsIdle};
 ghost use Rattle.path_rule.specs.Issued.{issued_in, opened_in};
+ghost use Rattle.path_rule.specs.Rounds.{WroteBelow};
 ghost use Rattle.path_rule.specs.Calls.{Started, Refused, acts, FoundSince};
 ghost use Rattle.path_table.specs.Members.{view_of, IsOf, IsSame, Stepped};
 
@@ -59,6 +60,14 @@ impl<K> PathSeat<K> {
         ensures { result ≡ issued_in (view_of self.now.member).trail }
     {
         self.member.issued
+    }
+
+    /// The log key at which its last write ends, 0 before the first: all that it wrote ends at or
+    /// below it.
+    pub fn last_end(&self) -> u64
+        ensures { WroteBelow result (view_of self.now.member).trail }
+    {
+        self.member.last_end
     }
 }
 

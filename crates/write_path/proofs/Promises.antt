@@ -2,7 +2,6 @@
 use Rattle.std.proofs.Common.{
   ◌≡◌,
   ℕ,
-  ◌<◌,
   ◌≤◌,
   List,
   [],
@@ -11,7 +10,6 @@ use Rattle.std.proofs.Common.{
   refl,
   sym,
   subst,
-  ⊎_elim,
   arith,
 }
 use Rattle.std.specs.List.{Contains}
@@ -26,7 +24,6 @@ use Rattle.path_core.specs.declared.event.Event.TheVariants.{Close}
 use Rattle.path_core.specs.declared.event.Place.TheVariants.{CursorWord}
 use Rattle.path_core.specs.declared.note.EntryNote.{EntryNote}
 use Rattle.path_core.specs.Keeper.{Holding}
-use Rattle.path_core.specs.Keys.{after as behind_key}
 use Rattle.path_core.specs.LawfulLog.{is_at_most}
 use Rattle.path_core.proofs.lists.Passing.{kept_in}
 use Rattle.path_rule.specs.declared.view.OwnStep.{OwnStep}
@@ -36,11 +33,11 @@ use Rattle.path_rule.proofs.seats.Answering.{found_after, found_before}
 use Rattle.path_table.specs.declared.trying.PathSeat.{PathSeat}
 use Rattle.path_table.specs.Members.{view_of}
 use Rattle.write_path.specs.declared.prepared.Prepared.{Prepared}
-use Rattle.write_path.specs.Closed.{ArePartedFor, AreSyncedFor, IsOutcome}
+use Rattle.write_path.specs.Closed.{AreSyncedFor, IsOutcome}
 use Rattle.write_path.specs.Commits.{IsLogged}
 use Rattle.path_flush.specs.OwnWrites.{with_write, writes_of}
 use Rattle.path_flush.specs.Grown.{HasGrown}
-use Rattle.write_path.specs.Promised.{WasDone, WasDurable, WasSynced}
+use Rattle.write_path.specs.Promised.{WasDone, WasDurable}
 use Rattle.write_path.specs.Sealed.{
   AreSealed,
   AreSealedApart,
@@ -146,30 +143,6 @@ module _ {K : Type 0} (size : PathSize) (seats : List (PathSeat K)) (end : ℕ) 
         is_logged n (still_listed D.after.trail t n D.since D.listed)
             (let up = D.syncs.covers n D.listed in omega arith),
       )
-
-  -- It has each entry that ends at or below where a sync found the log.
-  pub synced_logged : (upto : ℕ)
-      → WasSynced size s.member.number upto (view_of s.member).trail → (n : EntryNote)
-      → Contains O.core.notes n → n.end.0 ≤ upto → Contains h.logged n
-  synced_logged upto D n among low = let A = D.syncs.answers in
-      let t = (view_of s.member).trail in
-      let at_answer = subst (λ (l : List OwnStep). Finds (CursorWord Synced) D.key l)
-      (sym A.steps.trail)
-      (found_after (CursorWord Synced) D.key A.steps.steps D.before.trail A.now) in
-      let found = subst (λ (l : List OwnStep). Finds (CursorWord Synced) D.key l)
-      (sym D.since.is)
-      (found_before (CursorWord Synced) D.key D.since.newer D.after.trail at_answer) in
-      let synced = has_key D.key found in
-      let reaches = subst (λ k. k ≤ behind_key size.capacity D.key) D.upto_is
-      (subst (λ (z : PathSize). D.syncs.end ≤ behind_key z.capacity D.key) D.of_path
-      D.syncs.reaches) in
-      subst (λ (l : List EntryNote). Contains l n) (sym O.logged)
-      (kept_in (is_at_most h.synced) O.core.notes n among
-      (⊎_elim (λ (front : n.end.0 ≤ D.key). le-leb n.end.0 h.synced (omega (arith, front, synced)))
-      (λ (behind : behind_key size.capacity D.key < n.end.0).
-      absurd (omega (arith, behind, low, reaches)))
-      (All-contains (ArePartedFor size.capacity O.core.notes) seats s O.parted one D.key found n
-      among)))
 
   -- a marker stands behind it
   pub durable_marked : (n : EntryNote)

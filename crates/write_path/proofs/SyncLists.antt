@@ -1,14 +1,12 @@
 -- Steps of barriers and syncs leave a seat's list. A try to sync, put together.
-use Rattle.std.proofs.Common.{◌≡◌, ℕ, List, [], ◌∷◌, ◌++◌, Option, Some, None, refl, sym, ap, ◌∙◌}
+use Rattle.std.proofs.Common.{◌≡◌, ℕ, List, [], ◌∷◌, ◌++◌, Option, Some, None, refl, ap, ◌∙◌}
 use Rattle.std.proofs.Common.{subst}
 use Rattle.std.proofs.lemmas.Option.{none-some, same_Some}
-use mathlib.Core.Logic.{inl}
 use Rattle.path_core.specs.declared.event.Event.{Event}
 use Rattle.path_core.specs.declared.event.Event.TheVariants.{Look, Register, Close, OpenGroup}
 use Rattle.path_core.specs.declared.event.Event.TheVariants.{MoveCurrent, Expire, Advance, Claim}
 use Rattle.path_core.specs.declared.event.Event.TheVariants.{Switch, Raise, Finalise, TakeTurn}
 use Rattle.path_core.specs.declared.event.Event.TheVariants.{GiveTurn, Put}
-use Rattle.path_core.specs.declared.event.Place.TheVariants.{Log}
 use Rattle.path_core.specs.declared.event.Turn.TheVariants.{Sync}
 use Rattle.path_core.specs.declared.note.EntryNote.{EntryNote}
 use Rattle.path_rule.specs.declared.answer.SyncAnswer.{SyncAnswer}
@@ -16,17 +14,14 @@ use Rattle.path_rule.specs.declared.answer.SyncAnswer.TheVariants.{Done, Stopped
 use Rattle.path_rule.specs.declared.view.Hands.{Hands}
 use Rattle.path_rule.specs.declared.view.OwnStep.{OwnStep}
 use Rattle.path_rule.specs.declared.view.View.{View}
-use Rattle.path_rule.specs.Calls.{Did, DidAs}
+use Rattle.path_rule.specs.Calls.{DidAs}
 use Rattle.path_rule.specs.Rounds.{IsRoundStep, AreRoundSteps, RoundSteps}
-use Rattle.path_rule.specs.Finds.{Finds}
-use Rattle.path_rule.specs.Reached.{MayReach, Reaches}
 use Rattle.path_rule.specs.SyncAnswers.{IsAnswer, Answers, MayAnswer}
-use Rattle.path_rule.proofs.seats.Answering.{answers_after, found_after, found_before, may_after}
-use Rattle.path_rule.proofs.seats.Answering.{may_still}
-use Rattle.path_rule.proofs.seats.RoundsGo.{both, one, one_as}
+use Rattle.path_rule.proofs.seats.Answering.{answers_after, may_after, may_still}
+use Rattle.path_rule.proofs.seats.RoundsGo.{one_as}
 use Rattle.path_flush.proofs.ListBelow.{list_below}
 use Rattle.path_flush.specs.OwnWrites.{with_write, writes_of}
-use Rattle.write_path.specs.Syncs.{CoversList, HasLooked, Syncs}
+use Rattle.write_path.specs.Syncs.{CoversList, Syncs}
 
 -- such a step deposits nothing
 adds_none : (w : ℕ) (e : Event) (l : List EntryNote) → IsRoundStep w e → with_write e l ≡ l
@@ -57,52 +52,22 @@ covers w opened (Done s) ps v I = list_below s v.trail I.1
 covers w opened (Stopped at_open now) ps v I = tt
 covers w opened OutOfMemory ps v I = tt
 
--- So an answer behind a look at the log is that of a sync, if it reaches what was found there.
-pub syncs : (w opened key : ℕ) (v u : View) (a : SyncAnswer) (after : View)
-    → HasLooked w key v u → Answers w 1 opened u a after → Reaches v.size.capacity key a
+-- So an answer behind steps that gave none is that of a sync.
+syncs : (w opened : ℕ) (v : View) (a : SyncAnswer) (after : View) → Answers w 1 opened v a after
     → Syncs w opened v a after
-syncs w opened key v u a after L B R = let A = answers_after w opened a v u after L.steps B in
-    record {
-      answers = A;
-      list = ap writes_of A.steps.trail ∙ list_stays w A.steps.steps v.trail A.steps.are;
-      covers = covers w opened a A.puts after A.is;
-      end = key;
-      looked = found_before Log key B.steps.steps L.steps.steps L.looked;
-      reaches = R;
-    }
-
--- an answer that there was
-pub answered : (w opened capacity key : ℕ) (v u after : View) (r : Option SyncAnswer)
-    (a : SyncAnswer) → r ≡ Some a → v.size.capacity ≡ capacity → HasLooked w key v u
-    → MayAnswer w 1 opened u r after → MayReach capacity key r → Syncs w opened v a after
-answered w opened capacity key v u after None a is fits L A R = absurd (none-some a is)
-answered w opened capacity key v u after (Some b) a is fits L A R =
-    subst (λ (x : SyncAnswer). Syncs w opened v x after) (same_Some b a is)
-    (syncs w opened key v u b after L A (subst (λ c. Reaches c key b) (sym fits) R))
-
--- ---- a log key that was found
-
--- by one look
-pub looked_at : (w key : ℕ) (v after : View) → Did v w (Look w Log) key after
-    → HasLooked w key v after
-looked_at w key v after D = record {
-  steps = one w (Look w Log) key v after refl D;
-  looked = inl (refl, refl);
+syncs w opened v a after A = record {
+  answers = A;
+  list = ap writes_of A.steps.trail ∙ list_stays w A.steps.steps v.trail A.steps.are;
+  covers = covers w opened a A.puts after A.is;
 }
 
--- it is found still behind further steps
-pub looked_on : (w z key : ℕ) (v u after : View) → z ≡ w → HasLooked w key v u
-    → RoundSteps z 0 [] u after → HasLooked w key v after
-looked_on w z key v u after same L S =
-    let B = subst (λ k. RoundSteps k 0 [] u after) same S in record {
-      steps = both w [] [] v u after L.steps B;
-      looked = found_before Log key B.steps L.steps.steps L.looked;
-    }
-
-pub looked_trail : (w key : ℕ) (v after : View) → HasLooked w key v after
-    → Finds Log key after.trail
-looked_trail w key v after L = subst (λ (l : List OwnStep). Finds Log key l)
-    (sym L.steps.trail) (found_after Log key L.steps.steps v.trail L.looked)
+-- an answer that there was
+pub answered : (w opened : ℕ) (v u after : View) (r : Option SyncAnswer) (a : SyncAnswer)
+    → r ≡ Some a → RoundSteps w 0 [] v u → MayAnswer w 1 opened u r after → Syncs w opened v a after
+answered w opened v u after None a is S A = absurd (none-some a is)
+answered w opened v u after (Some b) a is S A =
+    subst (λ (x : SyncAnswer). Syncs w opened v x after) (same_Some b a is)
+    (syncs w opened v b after (answers_after w opened b v u after S A))
 
 -- A seat took the Sync turn, made a round of a sync, and gave the turn back.
 pub tried : (w z y opened : ℕ) (h k : Hands) (a : Option SyncAnswer) (v u x after : View)

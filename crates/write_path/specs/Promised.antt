@@ -44,18 +44,6 @@ pub record WasSpent (size : PathSize) (bytes key : ℕ) (trail : List OwnStep) :
   pub spent : HasNoRoom size bytes since key after
   pub grown : HasGrown after.trail trail
 
--- A sync of seat w was answered Done, and had found this log key in its call, when this was the
--- seat's trail, or earlier.
-pub record WasSynced (size : PathSize) (w upto : ℕ) (trail : List OwnStep) : Type 0 where
-  pub opened : ℕ
-  pub key : ℕ
-  pub before : View
-  pub after : View
-  pub syncs : Syncs w opened before (Done key) after
-  pub of_path : before.size ≡ size
-  pub upto_is : syncs.end ≡ upto
-  pub since : HasGrown after.trail trail
-
 -- A sync of seat w was answered Done with a key while its list had write n, when this was the
 -- seat's trail, or earlier.
 pub record WasDone (w key : ℕ) (n : EntryNote) (trail : List OwnStep) : Type 0 where

@@ -1,14 +1,10 @@
 -- What a sync answers, and what is so then of its seat and the seat's list.
-use Rattle.std.specs.Prelude.{◌≡◌, ℕ, ◌≤◌, []}
+use Rattle.std.specs.Prelude.{◌≡◌, ℕ, ◌≤◌}
 use Rattle.std.specs.List.{Contains}
-use Rattle.path_core.specs.declared.event.Place.TheVariants.{Log}
 use Rattle.path_core.specs.declared.note.EntryNote.{EntryNote}
 use Rattle.path_rule.specs.declared.answer.SyncAnswer.{SyncAnswer}
 use Rattle.path_rule.specs.declared.answer.SyncAnswer.TheVariants.{Done, Stopped, OutOfMemory}
 use Rattle.path_rule.specs.declared.view.View.{View}
-use Rattle.path_rule.specs.Finds.{Finds}
-use Rattle.path_rule.specs.Reached.{Reaches}
-use Rattle.path_rule.specs.Rounds.{RoundSteps}
 use Rattle.path_rule.specs.SyncAnswers.{Answers}
 use Rattle.path_flush.specs.OwnWrites.{writes_of}
 
@@ -18,19 +14,10 @@ CoversList (Done s) v = (n : EntryNote) → Contains (writes_of v.trail) n → n
 CoversList (Stopped at_open now) v = Unit {0}
 CoversList OutOfMemory v = Unit {0}
 
--- Seat w made steps of barriers and syncs alone, which put nothing and issued no barrier, and found
--- the log key at one.
-pub record HasLooked (w key : ℕ) (v after : View) : Type 0 where
-  pub steps : RoundSteps w 0 [] v after
-  pub looked : Finds Log key steps.steps
-
 -- A sync by seat w answered this. The seat made steps of barriers and syncs alone, of which one at
 -- most issued a barrier, its list is as it was, and what `Answers` says of the keys and counts is
--- so. It found this log key in the call, and Done says that the log is lasting up to there.
+-- so.
 pub record Syncs (w opened : ℕ) (v : View) (answer : SyncAnswer) (after : View) : Type 0 where
   pub answers : Answers w 1 opened v answer after
   pub list : writes_of after.trail ≡ writes_of v.trail
   pub covers : CoversList answer after
-  pub end : ℕ
-  pub looked : Finds Log end answers.steps.steps
-  pub reaches : Reaches v.size.capacity end answer

@@ -56,7 +56,7 @@ impl<K: Keeper, A: Allocator> WritePath<K, A> {
         let tables = prepared.tables();
         let own = 1 + 2 * usize::from(number) + (group % 2) as usize;
         let mut member = self.table.put_notes(member, own, &mut prepared.notes);
-        let _found = self.table.deposit(&mut member, group);
+        let _found = self.table.deposit(&mut member, group, end.0);
         let seat = Deposited {
             member,
             writing,

@@ -1,6 +1,6 @@
-//! Laws of notes, of writes that a marker stands behind, of how far a sync reaches, of where a log
-//! begins, of what spends a path, and of what an answer promises for its close. Each is the
-//! contract of a function that does nothing.
+//! Laws of notes, of writes that a marker stands behind, of how far a round of a sync reaches, of
+//! where a log begins, of what spends a path, and of what an answer promises for its close. Each is
+//! the contract of a function that does nothing.
 ghost use Rattle.std.specs.Prelude.{◌≡◌, ℕ, ◌+◌, ◌-◌, ◌*◌, ◌/◌, ◌^◌, ◌<◌, ◌≤◌, List, [], ◌∷◌, ◌++◌};
 ghost use Rattle.std.specs.Prelude.{length, true, Some, None, IsTrue};
 ghost use Rattle.std.specs.List.{All, Contains};
@@ -34,7 +34,7 @@ ghost use Rattle.write_path.specs.Commits.{IsLogged};
 ghost use Rattle.path_flush.specs.OwnWrites.{writes_of};
 ghost use Rattle.path_flush.specs.Grown.{HasGrown};
 ghost use Rattle.write_path.specs.Promised.{HasFileFrom, HasVoid, IsUpTo, WasDone, WasDurable};
-ghost use Rattle.write_path.specs.Promised.{WasFlushed, WasSpent, WasSynced};
+ghost use Rattle.write_path.specs.Promised.{WasFlushed, WasSpent};
 ghost use Rattle.write_path.specs.Sealed.{HasMarkBehind, HasMarkBetween, IsSealed};
 ghost use Rattle.write_path.specs.SealedRows.{behind_it, before_it, behind_a_claim};
 ghost use Rattle.write_path.specs.Writes.{entry_size, IsNoteOf, IsClaimed, IsDepositable};
@@ -73,9 +73,9 @@ pub fn what_seals_a_write()
         → IsSealed n (newer ++ trail) }
 {}
 
-/// How far the log is lasting behind a sync that is answered `Done`, by values, in segments of 4096
-/// bytes.
-pub fn what_a_sync_reaches()
+/// How far the log is lasting behind a round of a sync that is answered `Done`, by values, in
+/// segments of 4096 bytes.
+pub fn what_a_round_reaches()
     // Behind the marker at 100 the log goes on at 108: so far it reaches.
     ensures marker { Reaches 4096 108 (Done 100) }
     // A sync that ended at an older marker, at 60, does not.
@@ -102,12 +102,6 @@ pub fn what_close_keeps<K: Keeper>()
         → IsOutcome size seats end h → (s : PathSeat K) → Contains seats s
         → (key : ℕ) (n : EntryNote) → WasDone s.member.number key n (view_of s.member).trail
         → (key ≤ h.synced) × Contains h.logged n }
-    // It has each entry, whichever seat logged it, that ends at or below where a sync found the log
-    // that was answered `Done`.
-    ensures reached { (size : PathSize) (seats : List (PathSeat K)) (end : ℕ) (h : Holding)
-        → (o : IsOutcome size seats end h) → (s : PathSeat K) → Contains seats s → (upto : ℕ)
-        → WasSynced size s.member.number upto (view_of s.member).trail → (n : EntryNote)
-        → Contains o.core.notes n → n.end.0 ≤ upto → Contains h.logged n }
     // A marker stands between a write that was answered `Durable` and each one that its seat logged
     // behind it.
     ensures apart { (size : PathSize) (seats : List (PathSeat K)) (end : ℕ) (h : Holding)

@@ -38,7 +38,7 @@ pub use commit::{Commit, Receipt, SyncFault};
 pub use deposited::Deposited;
 pub use fault::PrepareFault;
 pub use laws::{
-    note_laws, what_a_sync_reaches, what_close_keeps, what_seals_a_write, what_spends_a_path,
+    note_laws, what_a_round_reaches, what_close_keeps, what_seals_a_write, what_spends_a_path,
     where_a_log_begins,
 };
 pub use path_flush::{Flush, Switch};

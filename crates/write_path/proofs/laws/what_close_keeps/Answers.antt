@@ -1,12 +1,6 @@
 use Rattle.write_path.proofs.AnswerPromises.{answer_covered, answer_filed, answer_voided}
 use Rattle.write_path.proofs.FlushPromises.{flushed_filed}
-use Rattle.write_path.proofs.Promises.{
-  done_logged,
-  durable_apart,
-  durable_logged,
-  durable_marked,
-  synced_logged,
-}
+use Rattle.write_path.proofs.Promises.{done_logged, durable_apart, durable_logged, durable_marked}
 use Rattle.write_path.proofs.RetirePromises.{emptied_kept, final_kept, given_kept}
 use Rattle.write_path.proofs.laws.what_close_keeps.Goals as goal
 
@@ -18,9 +12,6 @@ returns-clause-marked g c = durable_marked
 
 pub returns-clause-done : goal.returns-clause-done
 returns-clause-done g c = done_logged
-
-pub returns-clause-reached : goal.returns-clause-reached
-returns-clause-reached g c = synced_logged
 
 pub returns-clause-apart : goal.returns-clause-apart
 returns-clause-apart g c = durable_apart

@@ -1,4 +1,4 @@
-use Rattle.std.proofs.Common.{sym, List, refl, ap, ◌∙◌, subst, arith}
+use Rattle.std.proofs.Common.{max, sym, List, refl, ap, ◌∙◌, subst, arith}
 use Rattle.std.specs.List.{Contains}
 use Rattle.atomic_table.specs.Table.{rest}
 use Rattle.path_core.specs.declared.state.Placed.{Placed}
@@ -8,6 +8,7 @@ use Rattle.path_rule.specs.Lasts.{beside_of, shows_of}
 use Rattle.path_rule.proofs.moves.DepositSteps.{deposits}
 use Rattle.path_rule.proofs.seats.Accepting.{untried}
 use Rattle.path_rule.specs.Issued.{issued_in}
+use Rattle.path_table.specs.LastEnds.{last_end_in}
 use Rattle.path_table.proofs.table.PathTable.deposit.Goals as goal
 
 pub fetch_sub-requires : goal.fetch_sub-requires
@@ -29,6 +30,8 @@ invariant_of-member g c = let m = c.args.member.now in let n = c.requires.note i
     in record {
       role = ap (λ (v : View). v.role) d.0.0 ∙ m.role;
       counted = m.counted ∙ sym (ap (λ (v : View). issued_in v.trail) d.0.0);
+      ended = c.max-member.ensures ∙ ((λ i. max (sym n.6 i) (m.ended i))
+          ∙ sym (ap (λ (v : View). last_end_in v.trail) d.0.0));
     }
 
 pub returns-clause-same : goal.returns-clause-same

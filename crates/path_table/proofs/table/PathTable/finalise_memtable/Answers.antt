@@ -13,6 +13,7 @@ use Rattle.path_rule.proofs.seats.SwitchStages.{final_above, final_found, final_
 use Rattle.path_rule.proofs.seats.SwitchStages.{switch_leaves}
 use Rattle.path_rule.proofs.seats.LeastStays.{final_keeps}
 use Rattle.path_rule.specs.Issued.{issued_in}
+use Rattle.path_table.specs.LastEnds.{last_end_in}
 use Rattle.path_table.proofs.table.PathTable.finalise_memtable.Goals as goal
 
 pub fetch_add-word-requires : goal.fetch_add-word-requires
@@ -37,6 +38,7 @@ invariant_of-member g c = let m = c.args.member.now in
     record {
       role = ap (λ (v : View). v.role) q.0.0.0 ∙ m.role;
       counted = m.counted ∙ sym (ap (λ (v : View). issued_in v.trail) q.0.0.0);
+      ended = m.ended ∙ sym (ap (λ (v : View). last_end_in v.trail) q.0.0.0);
     }
 
 pub returns-clause-same : goal.returns-clause-same

@@ -6,6 +6,7 @@ use Rattle.path_rule.specs.declared.view.View.{View}
 use Rattle.path_rule.proofs.moves.GatherSteps.{gathers}
 use Rattle.path_rule.specs.Lasts.{beside_of, shows_of}
 use Rattle.path_rule.specs.Issued.{issued_in}
+use Rattle.path_table.specs.LastEnds.{last_end_in}
 use Rattle.path_table.proofs.table.PathTable.gather.Goals as goal
 
 pub load-requires : goal.load-requires
@@ -28,10 +29,12 @@ invariant_of-member g c = let m = c.args.member.now in
     (λ hit. let d = e.0 hit in record {
       role = ap (λ (v : View). v.role) d.0.1.0 ∙ m.role;
       counted = m.counted ∙ sym (ap (λ (v : View). issued_in v.trail) d.0.1.0);
+      ended = m.ended ∙ sym (ap (λ (v : View). last_end_in v.trail) d.0.1.0);
     })
     (λ miss. let d = e.1 miss in record {
       role = ap (λ (v : View). v.role) d.0.0 ∙ m.role;
       counted = m.counted ∙ sym (ap (λ (v : View). issued_in v.trail) d.0.0);
+      ended = m.ended ∙ sym (ap (λ (v : View). last_end_in v.trail) d.0.0);
     })
 
 pub returns-clause-hit : goal.returns-clause-hit

@@ -6,6 +6,7 @@ use Rattle.path_rule.specs.Lasts.{beside_of, shows_of, refused_lasting}
 use Rattle.path_rule.proofs.moves.RefusedSyncs.{keeps_refused}
 use Rattle.path_rule.proofs.seats.MayGives.{gives_still, carries_on}
 use Rattle.path_rule.specs.Issued.{issued_in}
+use Rattle.path_table.specs.LastEnds.{last_end_in}
 use Rattle.path_table.proofs.table.PathTable.keep_refused.Goals as goal
 
 pub load-requires : goal.load-requires
@@ -27,6 +28,7 @@ invariant_of-member g c = let m = c.args.member.now in let d = c.load.ensures.2 
     record {
       role = ap (λ (v : View). v.role) d.0.4.0 ∙ m.role;
       counted = m.counted ∙ sym (ap (λ (v : View). issued_in v.trail) d.0.4.0);
+      ended = m.ended ∙ sym (ap (λ (v : View). last_end_in v.trail) d.0.4.0);
     }
 
 pub returns-clause-same : goal.returns-clause-same

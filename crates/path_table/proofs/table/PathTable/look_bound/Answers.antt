@@ -14,6 +14,7 @@ use Rattle.path_rule.proofs.moves.Looks.{looks_at}
 use Rattle.path_rule.proofs.seats.Accepting.{bound_goes, bound_leaves, bound_words, end_small}
 use Rattle.path_rule.proofs.seats.Accepting.{looked_tries}
 use Rattle.path_rule.specs.Issued.{issued_in}
+use Rattle.path_table.specs.LastEnds.{last_end_in}
 use Rattle.path_table.proofs.table.PathTable.look_bound.Goals as goal
 
 pub load-word-requires : goal.load-word-requires
@@ -39,6 +40,7 @@ invariant_of-member g c = let m = c.args.member.now in
     record {
       role = ap (λ (v : View). v.role) q.0.0.0 ∙ m.role;
       counted = m.counted ∙ sym (ap (λ (v : View). issued_in v.trail) q.0.0.0);
+      ended = m.ended ∙ sym (ap (λ (v : View). last_end_in v.trail) q.0.0.0);
     }
 
 pub returns-clause-same : goal.returns-clause-same

@@ -13,6 +13,7 @@ use Rattle.path_rule.specs.Finds.{Finds}
 use Rattle.path_rule.specs.Lasts.{beside_of, shows_of}
 use Rattle.path_rule.proofs.moves.FiledLooks.{looks_filed}
 use Rattle.path_rule.specs.Issued.{issued_in}
+use Rattle.path_table.specs.LastEnds.{last_end_in}
 use Rattle.path_table.proofs.table.PathTable.look_filed.Goals as goal
 
 pub load-requires : goal.load-requires
@@ -31,6 +32,7 @@ invariant_of-member g c = let m = c.args.member.now in let d = c.load.ensures.2 
     record {
       role = ap (λ (v : View). v.role) d.0.0.0 ∙ m.role;
       counted = m.counted ∙ sym (ap (λ (v : View). issued_in v.trail) d.0.0.0);
+      ended = m.ended ∙ sym (ap (λ (v : View). last_end_in v.trail) d.0.0.0);
     }
 
 pub returns-clause-same : goal.returns-clause-same

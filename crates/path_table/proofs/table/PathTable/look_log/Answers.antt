@@ -5,6 +5,7 @@ use Rattle.path_rule.proofs.moves.Looks.{looks}
 use Rattle.path_rule.proofs.places.ReadBack.{log_small}
 use Rattle.path_rule.specs.Lasts.{beside_of, shows_of}
 use Rattle.path_rule.specs.Issued.{issued_in}
+use Rattle.path_table.specs.LastEnds.{last_end_in}
 use Rattle.path_table.proofs.table.PathTable.look_log.Goals as goal
 
 pub load-requires : goal.load-requires
@@ -23,6 +24,7 @@ invariant_of-member g c = let m = c.args.member.now in
     record {
       role = ap (λ (v : View). v.role) d.0.0.0 ∙ m.role;
       counted = m.counted ∙ sym (ap (λ (v : View). issued_in v.trail) d.0.0.0);
+      ended = m.ended ∙ sym (ap (λ (v : View). last_end_in v.trail) d.0.0.0);
     }
 
 pub returns-clause-same : goal.returns-clause-same

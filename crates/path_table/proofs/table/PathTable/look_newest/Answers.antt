@@ -9,6 +9,7 @@ use Rattle.path_rule.proofs.moves.Looks.{looks}
 use Rattle.path_rule.proofs.seats.SwitchStages.{newest_found, newest_keeps, newest_leaves}
 use Rattle.path_rule.proofs.seats.SwitchStages.{newest_small}
 use Rattle.path_rule.specs.Issued.{issued_in}
+use Rattle.path_table.specs.LastEnds.{last_end_in}
 use Rattle.path_table.proofs.table.PathTable.look_newest.Goals as goal
 
 pub load-requires : goal.load-requires
@@ -30,6 +31,7 @@ invariant_of-member g c = let m = c.args.member.now in
     record {
       role = ap (λ (v : View). v.role) q.0.0.0 ∙ m.role;
       counted = m.counted ∙ sym (ap (λ (v : View). issued_in v.trail) q.0.0.0);
+      ended = m.ended ∙ sym (ap (λ (v : View). last_end_in v.trail) q.0.0.0);
     }
 
 pub returns-clause-same : goal.returns-clause-same

@@ -9,6 +9,7 @@ use Rattle.path_rule.specs.Lasts.{beside_of, shows_of}
 use Rattle.path_rule.proofs.moves.ReadBounds.{looks_read}
 use Rattle.path_rule.proofs.seats.ReadBounds.{bound_after}
 use Rattle.path_rule.specs.Issued.{issued_in}
+use Rattle.path_table.specs.LastEnds.{last_end_in}
 use Rattle.path_table.proofs.table.PathTable.look_read_bound.Goals as goal
 
 pub load-word-requires : goal.load-word-requires
@@ -39,6 +40,7 @@ invariant_of-member g c = let m = c.args.member.now in
     record {
       role = ap (λ (v : View). v.role) d.2.0.0 ∙ m.role;
       counted = m.counted ∙ sym (ap (λ (v : View). issued_in v.trail) d.2.0.0);
+      ended = m.ended ∙ sym (ap (λ (v : View). last_end_in v.trail) d.2.0.0);
     }
 
 pub returns-clause-same : goal.returns-clause-same

@@ -10,6 +10,7 @@ use Rattle.path_rule.proofs.moves.SwitchSteps.{marks_memtable}
 use Rattle.path_rule.proofs.seats.SwitchStages.{marked_stage, switch_leaves}
 use Rattle.path_rule.proofs.seats.LeastStays.{mark_keeps}
 use Rattle.path_rule.specs.Issued.{issued_in}
+use Rattle.path_table.specs.LastEnds.{last_end_in}
 use Rattle.path_table.proofs.table.PathTable.mark_memtable.Goals as goal
 
 pub store-requires : goal.store-requires
@@ -35,6 +36,7 @@ invariant_of-member g c = let m = c.args.member.now in
     record {
       role = ap (λ (v : View). v.role) q.0.0 ∙ m.role;
       counted = m.counted ∙ sym (ap (λ (v : View). issued_in v.trail) q.0.0);
+      ended = m.ended ∙ sym (ap (λ (v : View). last_end_in v.trail) q.0.0);
     }
 
 pub returns-clause-same : goal.returns-clause-same

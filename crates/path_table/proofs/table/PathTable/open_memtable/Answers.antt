@@ -8,6 +8,7 @@ use Rattle.path_rule.proofs.moves.SwitchSteps.{opens_memtable}
 use Rattle.path_rule.proofs.seats.SwitchStages.{opened_stage, switch_leaves}
 use Rattle.path_rule.proofs.seats.LeastStays.{open_keeps, open_newest}
 use Rattle.path_rule.specs.Issued.{issued_in}
+use Rattle.path_table.specs.LastEnds.{last_end_in}
 use Rattle.path_table.proofs.table.PathTable.open_memtable.Goals as goal
 
 pub store-requires : goal.store-requires
@@ -33,6 +34,7 @@ invariant_of-member g c = let m = c.args.member.now in
     record {
       role = ap (λ (v : View). v.role) q.0.0 ∙ m.role;
       counted = m.counted ∙ sym (ap (λ (v : View). issued_in v.trail) q.0.0);
+      ended = m.ended ∙ sym (ap (λ (v : View). last_end_in v.trail) q.0.0);
     }
 
 pub returns-clause-same : goal.returns-clause-same

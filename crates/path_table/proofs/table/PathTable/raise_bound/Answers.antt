@@ -12,6 +12,7 @@ use Rattle.path_rule.specs.Layout.{bound_in, bound_word}
 use Rattle.path_rule.proofs.moves.BoundSteps.{raises, writer_raises}
 use Rattle.path_rule.proofs.seats.Accepting.{bound_words, raised_leaves, raised_tries}
 use Rattle.path_rule.specs.Issued.{issued_in}
+use Rattle.path_table.specs.LastEnds.{last_end_in}
 use Rattle.path_table.proofs.table.PathTable.raise_bound.Goals as goal
 
 pub fetch_max-word-requires : goal.fetch_max-word-requires
@@ -39,6 +40,7 @@ invariant_of-member g c = let m = c.args.member.now in
     record {
       role = ap (λ (v : View). v.role) q.0.0.0 ∙ m.role;
       counted = m.counted ∙ sym (ap (λ (v : View). issued_in v.trail) q.0.0.0);
+      ended = m.ended ∙ sym (ap (λ (v : View). last_end_in v.trail) q.0.0.0);
     }
 
 pub returns-clause-same : goal.returns-clause-same

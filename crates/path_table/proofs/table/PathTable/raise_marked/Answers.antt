@@ -12,6 +12,7 @@ use Rattle.path_rule.proofs.seats.Accepting.{raised_leaves}
 use Rattle.path_rule.proofs.seats.SwitchStages.{raised_above, raised_stage_now}
 use Rattle.path_rule.proofs.seats.LeastStays.{raise_keeps}
 use Rattle.path_rule.specs.Issued.{issued_in}
+use Rattle.path_table.specs.LastEnds.{last_end_in}
 use Rattle.path_table.proofs.table.PathTable.raise_marked.Goals as goal
 
 pub fetch_max-found-requires : goal.fetch_max-found-requires
@@ -41,6 +42,7 @@ invariant_of-member g c = let m = c.args.member.now in
     record {
       role = ap (λ (v : View). v.role) q.0.0.0 ∙ m.role;
       counted = m.counted ∙ sym (ap (λ (v : View). issued_in v.trail) q.0.0.0);
+      ended = m.ended ∙ sym (ap (λ (v : View). last_end_in v.trail) q.0.0.0);
     }
 
 pub returns-clause-same : goal.returns-clause-same

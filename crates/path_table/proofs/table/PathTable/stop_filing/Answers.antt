@@ -11,6 +11,7 @@ use Rattle.path_rule.specs.Lasts.{beside_of, shows_of}
 use Rattle.path_rule.proofs.moves.NotedSteps.{halts_filing}
 use Rattle.path_rule.proofs.seats.MayGives.{carries_on, filed_as, hands_as, holds_still}
 use Rattle.path_rule.specs.Issued.{issued_in}
+use Rattle.path_table.specs.LastEnds.{last_end_in}
 use Rattle.path_table.proofs.table.PathTable.stop_filing.Goals as goal
 
 pub store-requires : goal.store-requires
@@ -32,6 +33,7 @@ invariant_of-member g c = let m = c.args.member.now in
     record {
       role = ap (λ (v : View). v.role) d.0.4.0 ∙ m.role;
       counted = m.counted ∙ sym (ap (λ (v : View). issued_in v.trail) d.0.4.0);
+      ended = m.ended ∙ sym (ap (λ (v : View). last_end_in v.trail) d.0.4.0);
     }
 
 pub returns-clause-same : goal.returns-clause-same

@@ -9,6 +9,7 @@ use Rattle.path_rule.specs.Lasts.{beside_of, shows_of}
 use Rattle.path_rule.proofs.moves.TableTurns.{takes_flush}
 use Rattle.path_rule.proofs.seats.Accepting.{table_inside}
 use Rattle.path_rule.specs.Issued.{issued_in}
+use Rattle.path_table.specs.LastEnds.{last_end_in}
 use Rattle.path_table.proofs.table.PathTable.take_flush.Goals as goal
 
 pub compare_exchange-requires : goal.compare_exchange-requires
@@ -32,10 +33,12 @@ invariant_of-member g c = let m = c.args.member.now in
     (λ hit. record {
       role = ap (λ (v : View). v.role) (e.0 hit).0.0.0 ∙ m.role;
       counted = m.counted ∙ sym (ap (λ (v : View). issued_in v.trail) (e.0 hit).0.0.0);
+      ended = m.ended ∙ sym (ap (λ (v : View). last_end_in v.trail) (e.0 hit).0.0.0);
     })
     (λ miss. record {
       role = ap (λ (v : View). v.role) (e.1 miss).0.0.0 ∙ m.role;
       counted = m.counted ∙ sym (ap (λ (v : View). issued_in v.trail) (e.1 miss).0.0.0);
+      ended = m.ended ∙ sym (ap (λ (v : View). last_end_in v.trail) (e.1 miss).0.0.0);
     })
 
 pub returns-clause-same : goal.returns-clause-same

@@ -11,6 +11,7 @@ use Rattle.path_rule.specs.HandsAfter.{with_held}
 use Rattle.path_rule.specs.Lasts.{beside_of, shows_of}
 use Rattle.path_rule.proofs.moves.MemtableSteps.{takes_memtable}
 use Rattle.path_rule.specs.Issued.{issued_in}
+use Rattle.path_table.specs.LastEnds.{last_end_in}
 use Rattle.path_table.proofs.table.PathTable.take_memtable.Goals as goal
 
 pub load-requires : goal.load-requires
@@ -33,6 +34,7 @@ invariant_of-member g c = let m = c.args.member.now in
     c.requires.place in record {
       role = ap (λ (v : View). v.role) q.0.1.0 ∙ m.role;
       counted = m.counted ∙ sym (ap (λ (v : View). issued_in v.trail) q.0.1.0);
+      ended = m.ended ∙ sym (ap (λ (v : View). last_end_in v.trail) q.0.1.0);
     }
 
 pub returns-clause-same : goal.returns-clause-same

@@ -10,6 +10,7 @@ use Rattle.path_rule.specs.HandsAfter.{box_read, with_reading}
 use Rattle.path_rule.specs.Lasts.{beside_of, shows_of}
 use Rattle.path_rule.proofs.moves.ReadSteps.{takes_read}
 use Rattle.path_rule.specs.Issued.{issued_in}
+use Rattle.path_table.specs.LastEnds.{last_end_in}
 use Rattle.path_table.proofs.table.PathTable.take_read.Goals as goal
 
 pub load-requires : goal.load-requires
@@ -35,6 +36,7 @@ invariant_of-member g c = let m = c.args.member.now in let q = c.requires.reads 
     record {
       role = ap (λ (v : View). v.role) d.1.0 ∙ m.role;
       counted = m.counted ∙ sym (ap (λ (v : View). issued_in v.trail) d.1.0);
+      ended = m.ended ∙ sym (ap (λ (v : View). last_end_in v.trail) d.1.0);
     }
 
 pub returns-clause-same : goal.returns-clause-same

@@ -56,6 +56,7 @@ deposit-found-requires-clause-note g c =
           ∙ ap (λ z. z.tables) c.requires.table.1)) ready.below,
       ready.whole,
       has,
+      C.ends ∙ P.4,
     )
 
 pub invariant_of-seat : goal.invariant_of-seat

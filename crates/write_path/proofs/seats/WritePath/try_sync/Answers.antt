@@ -1,12 +1,11 @@
 use Rattle.std.proofs.Common.{[], refl, ap, ◌∙◌, arith}
 use Rattle.atomic_table.specs.Table.{rest}
 use Rattle.path_core.specs.declared.event.Event.TheVariants.{Look, TakeTurn}
-use Rattle.path_core.specs.declared.event.Place.TheVariants.{Log, TurnWord}
+use Rattle.path_core.specs.declared.event.Place.TheVariants.{TurnWord}
 use Rattle.path_core.specs.declared.event.Turn.TheVariants.{Sync}
 use Rattle.path_rule.specs.declared.view.View.{View}
 use Rattle.path_rule.specs.Issued.{issued_in}
 use Rattle.path_rule.proofs.seats.Answering.{may_rest, may_size}
-use Rattle.path_rule.proofs.seats.Reaching.{found_on}
 use Rattle.path_rule.proofs.seats.RoundsGo.{one, one_as}
 use Rattle.path_rule.proofs.seats.SyncTaken.{taken_gives, taken_knows, taken_unswept}
 use Rattle.write_path.proofs.Paying.{may_pay}
@@ -71,13 +70,6 @@ returns-clause-answer g c =
     let T = c.take_sync.ensures in let S = c.sync_round-member in
     tried c.args.seat.member.number _ _ c.args.self.now.table.size.at_open _ _ S.result.1 _ _ _ _
     h.3 refl T.same.1 S.ensures.answer (S.ensures.same.1 ∙ T.same.1) c.give_sync.ensures.step refl
-
-pub returns-clause-reaches : goal.returns-clause-reaches
-returns-clause-reaches g c =
-    let h = (c.take_sync.ensures.hit c.if-take_sync-ne0.false).0 in
-    let w = c.args.seat.member.number in
-    λ key F. c.sync_round-member.ensures.reaches key (found_on w [] _ _ Log key
-    (one_as w (TakeTurn w Sync) 1 _ _ _ refl h.3 refl) F)
 
 pub give_sync-requires-clause-table : goal.give_sync-requires-clause-table
 give_sync-requires-clause-table g c =

@@ -1,5 +1,5 @@
 use Rattle.std.proofs.Common.{arith}
-use Rattle.write_path.proofs.laws.what_a_sync_reaches.Goals as goal
+use Rattle.write_path.proofs.laws.what_a_round_reaches.Goals as goal
 
 pub returns-clause-marker : goal.returns-clause-marker
 returns-clause-marker c = omega arith
