@@ -1,17 +1,22 @@
-//! What a seat that waits for a sync looks at, without the Sync turn: how far the log is lasting.
-//! The synced key only grows, so what is lasting when a seat looks stays so: a sync made by another
-//! seat serves all that wait for a key at or below it (`CommitLogSegment.waitForSync`).
-ghost use Rattle.std.specs.Prelude.{◌≡◌, ℕ};
+//! What a seat that waits looks at, without the Sync turn: how far the log is lasting, which group
+//! of the write order is the oldest one, and whether the turn is free. The synced key only grows, so
+//! what is lasting when a seat looks stays so: a sync made by another seat serves all that wait for a
+//! key at or below it (`CommitLogSegment.waitForSync`).
+ghost use Rattle.std.specs.Prelude.{◌≡◌, ℕ, Some};
+ghost use Rattle.op_core.specs.declared.count.Order.TheVariants.{Write};
 ghost use Rattle.path_core.specs.declared.event.Cursor.TheVariants.{Synced};
 ghost use Rattle.path_core.specs.declared.event.Event.TheVariants.{Look};
-ghost use Rattle.path_core.specs.declared.event.Place.TheVariants.{CursorWord};
+ghost use Rattle.path_core.specs.declared.event.Place.TheVariants.{CursorWord, Oldest};
+ghost use Rattle.path_core.specs.declared.event.Place.TheVariants.{TurnWord};
+ghost use Rattle.path_core.specs.declared.event.Turn.TheVariants.{Sync};
+ghost use Rattle.path_core.specs.Parts.{found_of};
 ghost use Rattle.path_rule.specs.Rounds.{WroteBelow};
 ghost use Rattle.path_rule.specs.Rule.{Was};
 ghost use Rattle.path_rule.specs.SyncAnswers.{IsDoneBy, MayAnswer};
-ghost use Rattle.path_table.specs.Members.{view_of, IsOf, KeepsBoxes, KeepsSizes, Stepped};
+ghost use Rattle.path_table.specs.Members.{view_of, part_of, IsOf, KeepsBoxes, KeepsSizes, Stepped};
 
 use crate::table::{Member, PathTable};
-use crate::words::SYNCED;
+use crate::words::{OLDEST_WRITE, SYNCED, SYNC_TURN};
 use path_core::Keeper;
 use path_rule::{LookAt, SyncAnswer};
 use std::alloc::Allocator;
@@ -29,6 +34,33 @@ impl<K: Keeper, A: Allocator> PathTable<K, A> {
         self.table
             .shared
             .load::<LookAt<K>>(&mut member.seat, SYNCED)
+    }
+
+    /// The oldest group of the write order that was not moved over: the barriers of those before it
+    /// are passed.
+    pub fn look_passed(&self, member: &mut Member<K>) -> u64
+        requires { IsOf self.now.table.shared.table_id self.now.size member.old }
+        ensures same { KeepsBoxes member.old member.new }
+        ensures step { Stepped member.old (Look member.old.number (Oldest Write)) result
+            member.new }
+        ensures found { (found_of Write (part_of member.new)).oldest ≡ Some result }
+    {
+        self.table
+            .shared
+            .load::<LookAt<K>>(&mut member.seat, OLDEST_WRITE)
+    }
+
+    /// The word of the Sync turn, which is 0 where nobody has it: who waits for the turn tries to
+    /// take it only then.
+    pub fn look_turn(&self, member: &mut Member<K>) -> u64
+        requires { IsOf self.now.table.shared.table_id self.now.size member.old }
+        ensures same { KeepsBoxes member.old member.new }
+        ensures step { Stepped member.old (Look member.old.number (TurnWord Sync)) result
+            member.new }
+    {
+        self.table
+            .shared
+            .load::<LookAt<K>>(&mut member.seat, SYNC_TURN)
     }
 
     /// Whether the log is lasting up to a key: the answer of a sync by a member that wrote nothing
