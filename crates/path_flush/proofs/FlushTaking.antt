@@ -25,16 +25,19 @@ use Rattle.std.proofs.lemmas.Bool.{false≢true}
 use Rattle.std.specs.Option.{option_map}
 use Rattle.atomic_table.specs.Table.{Me}
 use Rattle.clog_base.specs.declared.cell.Table.{Table}
+use Rattle.op_core.specs.declared.count.Order.TheVariants.{Write}
 use Rattle.path_core.specs.declared.event.Event.{Event}
 use Rattle.path_core.specs.declared.event.Event.TheVariants.{GiveTurn, Look, TakeTurn}
-use Rattle.path_core.specs.declared.event.Place.TheVariants.{TurnWord}
+use Rattle.path_core.specs.declared.event.Place.TheVariants.{Oldest, TurnWord}
 use Rattle.path_core.specs.declared.event.Turn.TheVariants.{Sync, Flush}
 use Rattle.path_core.specs.declared.seat.FlushTurn.{FlushTurn}
 use Rattle.path_core.specs.declared.seat.Seat.{Seat}
 use Rattle.path_core.specs.declared.seat.SeatTable.{SeatTable}
 use Rattle.path_core.specs.declared.seat.Switching.TheVariants.{Settled}
+use Rattle.path_core.specs.declared.seat.SyncTurn.{SyncTurn}
 use Rattle.path_core.specs.Parts.{seat_table, stage_of, untouched, HoldsNoTurn, IsIdle}
 use Rattle.path_core.specs.SeatAfter.{new_flush}
+use Rattle.path_core.specs.SeatParts.{in_turn_groups, oldest_found}
 use Rattle.path_rule.specs.declared.lasting.Lasting.{Lasting}
 use Rattle.path_rule.specs.declared.slot.Slot.{Slot}
 use Rattle.path_rule.specs.declared.view.FlushRead.{FlushRead}
@@ -109,6 +112,28 @@ module _ {K : Type 0} where
       unclaimed = ap (λ (u : View). u.part.claim) d.view ∙ H.holder.unclaimed;
     };
     unsynced = ap (λ (u : View). u.part.sync) d.view ∙ H.unsynced;
+    bare = same ∙ H.bare;
+  }
+
+  -- so does a look at the oldest group of the write order
+  pub holds_passed : (m m' : Me (Slot K) View) (w t n : ℕ)
+      → Did m.0 w (Look w (Oldest Write)) n m'.0 → m'.1 ≡ m.1 → HasTable t m
+      → HasTable t m'
+  holds_passed m m' w t n d same H = record {
+    holder = record {
+      there = subst (λ z. t < z.tables) (sym (ap (λ (u : View). u.size) d.view)) H.holder.there;
+      held = ap (λ (u : View). is_some (seat_table u.part t).flush) d.view ∙ H.holder.held;
+      others = λ u other.
+          ap (λ (x : View). (seat_table x.part u).flush) d.view ∙ H.holder.others u other;
+      idle = record {
+        write = ap (λ (u : View). u.part.write) d.view ∙ H.holder.idle.write;
+        append = ap (λ (u : View). u.part.append) d.view ∙ H.holder.idle.append;
+      };
+      unclaimed = ap (λ (u : View). u.part.claim) d.view ∙ H.holder.unclaimed;
+    };
+    unsynced = ap (λ (u : View). u.part.sync) d.view
+        ∙ ap (λ (o : Option SyncTurn). option_map (in_turn_groups Write (oldest_found n)) o)
+        H.unsynced;
     bare = same ∙ H.bare;
   }
 

@@ -30,15 +30,15 @@ pub record MadeFinal (w t m key : ℕ) (v after : View) : Type 0 where
       ≡ Some (record { memtable = m; bound = Final (record { 0 = key }) })
   pub oldest : FlushOldest t after.part m
 
--- The one barrier that it issued is passed since: it has issued one for each memtable that it made.
--- What it knows of its boxes is what it knew.
-pub record SwitchedTo (w t m key : ℕ) (v after : View) : Type 0 where
+-- The one barrier that it issued, that of this group, is passed since: it has issued one for each
+-- memtable that it made. It reads what it read.
+pub record SwitchedTo (w t m key group : ℕ) (v after : View) : Type 0 where
   pub made : FlushSteps w t 1 v after
   pub set : Finalises w t m key made.steps
   pub only : FinalisesOnly t m made.steps
   pub kept : RetiresNone made.steps
   pub opened : opens t made.steps ≤ 1
   pub wrote : WroteBelow key after.trail
-  pub hands : after.hands ≡ v.hands
-  pub drained : IsDrained t m key after
+  pub reading : after.hands.reading ≡ v.hands.reading
+  pub drained : IsDrained t m group after
   pub paid : opened_in after.trail ≤ issued_in after.trail

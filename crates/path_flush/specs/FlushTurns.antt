@@ -1,7 +1,6 @@
 -- What a seat knows that flushes a table, with the table's Flush turn and beside it the Sync turn.
 use Rattle.std.specs.Prelude.{◌≡◌, ◌≢◌, ℕ, ◌^◌, ◌<◌, [], Some, None, IsTrue, is_some}
 use Rattle.atomic_table.specs.Table.{Me}
-use Rattle.op_core.specs.declared.count.Order.TheVariants.{Write}
 use Rattle.path_core.specs.declared.event.Cursor.TheVariants.{OldestLive}
 use Rattle.path_core.specs.declared.event.Place.TheVariants.{CursorWord, Newest}
 use Rattle.path_core.specs.declared.seat.Switching.TheVariants.{WithBarrier}
@@ -9,10 +8,11 @@ use Rattle.path_core.specs.Parts.{seat_table, stage_of, IsIdle}
 use Rattle.path_rule.specs.declared.lasting.Lasting.{Lasting}
 use Rattle.path_rule.specs.declared.slot.Slot.{Slot}
 use Rattle.path_rule.specs.declared.view.View.{View}
-use Rattle.path_rule.specs.Calls.{IsPast, MayGive}
+use Rattle.path_rule.specs.Calls.{MayGive}
 use Rattle.path_rule.specs.Desks.{HasDesk}
 use Rattle.path_rule.specs.Finds.{Finds}
 use Rattle.path_rule.specs.Switches.{FlushNewest, FlushOldest}
+use Rattle.path_rule.specs.Turns.{FoundPast}
 use Rattle.path_flush.specs.declared.flush_turn.Memtables.{Memtables}
 use Rattle.path_flush.specs.declared.flush_turn.Memtables.TheVariants.{Left, Free}
 use Rattle.path_flush.specs.FlushSteps.{FindsAlone, QuietSteps}
@@ -59,10 +59,9 @@ KnowsMemtables t (Left m) v = (m < 2 ^ 47) × FlushOldest t v.part m
     × ((n : ℕ) × FlushNewest t v.part n × (m ≢ n))
 KnowsMemtables t (Free n) v = (n < 2 ^ 47) × FlushOldest t v.part n × FlushNewest t v.part n
 
--- A memtable of the table is final at a key and its barrier is passed: nothing more is placed in
--- it.
-pub record IsDrained (t m key : ℕ) (v : View) : Type 0 where
-  pub group : ℕ
+-- The barrier of a memtable of the table is that of this group, and passed: nothing more is placed
+-- in it.
+pub record IsDrained (t m group : ℕ) (v : View) : Type 0 where
   pub stage : stage_of v.part t ≡ Some (WithBarrier m group)
-  pub past : IsPast Write v group
+  pub past : FoundPast v.part group
   pub oldest : FlushOldest t v.part m

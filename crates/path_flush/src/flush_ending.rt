@@ -1,17 +1,18 @@
 //! A flush gives its turns back: the Sync turn alone, or both.
-ghost use Rattle.std.specs.Prelude.{◌≡◌, ◌≤◌, ℕ, None};
-ghost use Rattle.path_core.specs.Parts.{seat_table};
+ghost use Rattle.std.specs.Prelude.{◌≡◌, ◌≤◌, ℕ, None, Some};
+ghost use Rattle.path_core.specs.declared.seat.Switching.TheVariants.{WithBarrier};
+ghost use Rattle.path_core.specs.Parts.{seat_table, stage_of};
 ghost use Rattle.path_rule.specs.Issued.{issued_in, opened_in};
 ghost use Rattle.path_rule.specs.Lasts.{shows_of};
 ghost use Rattle.path_table.specs.Members.{view_of, part_of, hands_of, IsOf};
-ghost use Rattle.path_flush.specs.FlushFilings.{HasBoth, IsBarred};
+ghost use Rattle.path_flush.specs.FlushFilings.{HasBoth};
 ghost use Rattle.path_flush.specs.FlushSteps.{QuietSteps};
 ghost use Rattle.path_flush.specs.FlushTurns.{HasTable};
 ghost use Rattle.path_flush.specs.Seats.{Stays};
 
+use crate::flush_passing::leave_passed;
 use clog_base::Table;
 use path_core::Keeper;
-use path_rounds::{Holder, pass_all};
 use path_table::{Member, PathSeat, PathTable};
 use std::alloc::Allocator;
 use std::sync::Wait;
@@ -37,25 +38,23 @@ pub(crate) fn give_sync_beside<K: Keeper, A: Allocator>(
     member
 }
 
-// Gives both turns back, the table's first: nothing of its switches is left half done.
+// Gives both turns back, the Sync turn first: the barrier of the table's switch was found passed.
 pub(crate) fn end_flush<K: Keeper, A: Allocator, R: Wait>(
     path: &PathTable<K, A>,
     rt: &R,
     member: Member<K>,
     table: Table,
+    group: u64,
 ) -> PathSeat<K>
     requires table { IsOf path.now.table.shared.table_id path.now.size member }
     requires holds { HasBoth (shows_of K.holds) table.0 member.seat.me }
     requires unread { (hands_of member).reading ≡ None }
-    requires barred { IsBarred table.0 (part_of member) }
+    requires barrier { (m : ℕ) × (stage_of (part_of member) table.0 ≡ Some (WithBarrier m group)) }
     requires paid { opened_in (view_of member).trail ≤ issued_in (view_of member).trail }
     ensures same { Stays path.now.table.shared.table_id path.now.size member
         result.member }
     ensures steps { QuietSteps member.number table.0 0 (view_of member) (view_of result.member) }
 {
-    // A round of a sync may lie behind the barrier: it is found passed again.
-    let Holder { mut member } = pass_all(path, rt, Holder { member });
-    path.give_flush(&mut member, table);
-    path.give_sync(&mut member);
-    PathSeat { member }
+    let member = give_sync_beside(path, member, table);
+    leave_passed(path, rt, member, table, group)
 }

@@ -1,7 +1,6 @@
 //! A memtable is read whole behind its passed barrier, and retired: with a table file where
-//! something was seen. Both turns are held, except while what was written is gathered: for that the
-//! table's turn is enough, so commits that wait for a sync, and flushes of other tables, go on
-//! meanwhile.
+//! something was seen. For the reading the table's turn is enough, so commits that wait for a sync,
+//! and flushes of other tables, go on meanwhile; the Sync turn is taken behind it.
 ghost use Rattle.std.specs.Prelude.{◌^◌, ◌≡◌, ◌≢◌, ◌<◌, ℕ, true, None, Some};
 ghost use Rattle.path_core.specs.declared.seat.Switching.TheVariants.{Settled};
 ghost use Rattle.path_core.specs.Parts.{stage_of};
@@ -12,7 +11,7 @@ ghost use Rattle.path_table.specs.Members.{view_of, part_of, hands_of, IsOf};
 ghost use Rattle.path_flush.specs.FlushFilings.{FilingSteps, HasBoth, PassesLeft, Retired};
 ghost use Rattle.path_flush.specs.FlushFilings.{unless_retired};
 ghost use Rattle.path_flush.specs.FlushGathers.{HasGathered};
-ghost use Rattle.path_flush.specs.FlushTurns.{HoldsBoth, HoldsTable};
+ghost use Rattle.path_flush.specs.FlushTurns.{HasTable, HoldsBoth, HoldsTable};
 ghost use Rattle.path_flush.specs.Seats.{Stays};
 
 use crate::flush_answer::Flush;
@@ -41,8 +40,8 @@ fn unless_retired(answer: Flush) -> Option<Flush>
     }
 }
 
-// Reads a memtable whole, behind its passed barrier. The Sync turn is given back for that, and
-// taken anew: nothing more comes into the memtable, whoever syncs meanwhile.
+// Reads a memtable whole, behind its passed barrier, and takes the Sync turn then: nothing more
+// comes into the memtable, whoever syncs meanwhile.
 fn read_whole<K: Keeper, A: Allocator, R: Wait>(
     path: &PathTable<K, A>,
     rt: &R,
@@ -53,7 +52,7 @@ fn read_whole<K: Keeper, A: Allocator, R: Wait>(
 ) -> (Member<K>, Gathered)
     requires table { IsOf path.now.table.shared.table_id path.now.size member }
     requires there { memtable < 2 ^ 47 }
-    requires holds { HoldsBoth (shows_of K.holds) table.0 member.seat.me }
+    requires holds { HasTable table.0 member.seat.me }
     requires stage { MayBeginRead table.0 (view_of member) memtable }
     requires oldest { FlushOldest table.0 (part_of member) memtable }
     requires unread { (hands_of member).reading ≡ None }
@@ -66,13 +65,12 @@ fn read_whole<K: Keeper, A: Allocator, R: Wait>(
         (hands_of result.0) }
 {
     let (member, above) = start_read(path, member, table, memtable);
-    let member = give_sync_beside(path, member, table);
     let (member, read) = gather_apart(path, alloc, member, table, memtable, above);
     (take_sync_beside(path, rt, member, table), read)
 }
 
-// Reads a memtable whole, behind its passed barrier, and retires it: with a file where
-// something was seen. Both turns are held before and behind it.
+// Reads a memtable whole, behind its passed barrier, and retires it: with a file where something
+// was seen. The table's turn is held before it, and both behind it.
 pub(crate) fn retire_memtable<K: Keeper, A: Allocator, R: Wait>(
     path: &PathTable<K, A>,
     rt: &R,
@@ -84,7 +82,7 @@ pub(crate) fn retire_memtable<K: Keeper, A: Allocator, R: Wait>(
     requires table { IsOf path.now.table.shared.table_id path.now.size member }
     requires there { memtable < 2 ^ 47 }
     requires files { path.now.size.files ≡ true }
-    requires holds { HoldsBoth (shows_of K.holds) table.0 member.seat.me }
+    requires holds { HasTable table.0 member.seat.me }
     requires stage { MayBeginRead table.0 (view_of member) memtable }
     requires oldest { FlushOldest table.0 (part_of member) memtable }
     requires unread { (hands_of member).reading ≡ None }
@@ -132,7 +130,9 @@ pub(crate) fn flush_left<K: Keeper, A: Allocator, R: Wait>(
     ensures passed { PassesLeft member.number table.0 memtable (view_of member) result.1
         (view_of result.0) }
 {
-    let member = take_sync_beside(path, rt, member, table);
+    let mut member = member;
+    // A look behind those that found it: it lies below the newest.
+    let _turn = path.look_turn(&mut member);
     let (member, answer) = retire_memtable(path, rt, alloc, member, table, memtable);
     (
         give_sync_beside(path, member, table),

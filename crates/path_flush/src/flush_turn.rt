@@ -1,15 +1,13 @@
 //! The turns that a flush holds: its table's Flush turn, taken by one try, and beside it the Sync
 //! turn, for which it waits. With the first it finds which memtables the table has.
-ghost use Rattle.std.specs.Prelude.{◌≡◌, ℕ, ◌<◌, ◌≤◌, [], Some, IfOk, MatchResult};
+ghost use Rattle.std.specs.Prelude.{◌≡◌, ℕ, ◌<◌, [], Some, IfOk, MatchResult};
 ghost use Rattle.path_core.specs.declared.event.Event.TheVariants.{Look};
 ghost use Rattle.path_core.specs.declared.event.Place.TheVariants.{TurnWord};
 ghost use Rattle.path_core.specs.declared.event.Turn.TheVariants.{Flush};
 ghost use Rattle.path_core.specs.declared.seat.Switching.TheVariants.{Settled};
 ghost use Rattle.path_core.specs.Parts.{seat_table, stage_of};
-ghost use Rattle.path_rule.specs.Issued.{issued_in, opened_in};
 ghost use Rattle.path_rule.specs.Lasts.{shows_of};
 ghost use Rattle.path_rule.specs.Rounds.{RoundSteps};
-ghost use Rattle.path_rule.specs.Switches.{FlushNewest, FlushOldest, MayGiveFlush};
 ghost use Rattle.path_rule.specs.SyncAnswers.{KnowsMarker};
 ghost use Rattle.path_table.specs.Members.{view_of, part_of, hands_of, IsOf, Stepped};
 ghost use Rattle.path_flush.specs.FlushSteps.{QuietSteps};
@@ -17,13 +15,12 @@ ghost use Rattle.path_flush.specs.FlushTurns.{FindsMemtables, HasTable, HoldsBot
 ghost use Rattle.path_flush.specs.FlushTurns.{KnowsMemtables};
 ghost use Rattle.path_flush.specs.Seats.{Stays};
 
-use crate::giving::give_sync_turn;
 use clog_base::Table;
 use path_core::Keeper;
+use path_rounds::wait_a_turn;
 use path_table::{Member, PathSeat, PathTable};
 use std::alloc::Allocator;
 use std::sync::Wait;
-use std::thread::yield_now;
 
 /// Which memtables a table has, as the holder of its Flush turn finds.
 #[derive(Clone, Copy, Drop)]
@@ -92,8 +89,43 @@ pub(crate) fn look_memtables<K: Keeper, A: Allocator>(
     }
 }
 
-// Takes the Sync turn beside the table's, with the desk, and waits while another seat has it.
-// No clause says that it returns.
+// Takes the Sync turn beside the table's, with the desk, where it is found free. It looks before it
+// tries: who finds the turn taken leaves its word to others.
+pub(crate) fn try_sync_beside<K: Keeper, A: Allocator>(
+    path: &PathTable<K, A>,
+    member: Member<K>,
+    table: Table,
+) -> Result<Member<K>, Member<K>>
+    requires table { IsOf path.now.table.shared.table_id path.now.size member }
+    requires holds { HasTable table.0 member.seat.me }
+    ensures same { MatchResult result
+        (λ m. Stays path.now.table.shared.table_id path.now.size member m)
+        (λ m. Stays path.now.table.shared.table_id path.now.size member m) }
+    ensures steps { MatchResult result
+        (λ m. RoundSteps member.number 0 [] (view_of member) (view_of m))
+        (λ m. RoundSteps member.number 0 [] (view_of member) (view_of m)) }
+    ensures holds { MatchResult result
+        (λ m. HoldsBoth (shows_of K.holds) table.0 m.seat.me)
+        (λ m. HasTable table.0 m.seat.me) }
+    ensures tables { MatchResult result
+        (λ m. (t : ℕ) → seat_table (part_of m) t ≡ seat_table (part_of member) t)
+        (λ m. (t : ℕ) → seat_table (part_of m) t ≡ seat_table (part_of member) t) }
+    ensures knows { IfOk result (λ m. KnowsMarker (view_of m) × ((hands_of m).swept ≡ 0)
+        × ((hands_of m).lasting.at_open ≡ path.now.size.at_open)) }
+{
+    let _ = table;
+    let mut member = member;
+    if path.look_turn(&mut member) != 0 {
+        return Err(member);
+    }
+    if path.take_sync(&mut member) == 0 {
+        Ok(member)
+    } else {
+        Err(member)
+    }
+}
+
+// The same, where it waits while another seat has the turn. No clause says that it returns.
 pub(crate) fn take_sync_beside<K: Keeper, A: Allocator, R: Wait>(
     path: &PathTable<K, A>,
     rt: &R,
@@ -107,37 +139,19 @@ pub(crate) fn take_sync_beside<K: Keeper, A: Allocator, R: Wait>(
     ensures steps { RoundSteps member.number 0 [] (view_of member) (view_of result) }
     ensures holds { HoldsBoth (shows_of K.holds) table.0 result.seat.me }
     ensures tables { (t : ℕ) → seat_table (part_of result) t ≡ seat_table (part_of member) t }
-    ensures order { (m n : ℕ) → FlushOldest table.0 (part_of member) m
-        → FlushNewest table.0 (part_of member) n → m ≤ n }
     ensures knows { KnowsMarker (view_of result) × ((hands_of result).swept ≡ 0)
         × ((hands_of result).lasting.at_open ≡ path.now.size.at_open) }
 {
-    let _ = table;
     let mut member = member;
+    let mut waited = 0;
     for _ in rt.forever() {
-        if path.take_sync(&mut member) == 0 {
-            return member;
+        match try_sync_beside(path, member, table) {
+            Ok(holder) => return holder,
+            Err(next) => {
+                member = next;
+                waited = wait_a_turn(rt, waited);
+            }
         }
-        yield_now();
     }
     unreachable!()
-}
-
-// Gives both turns back, the table's first: nothing of its switches is left half done.
-pub(crate) fn leave_both<K: Keeper, A: Allocator>(
-    path: &PathTable<K, A>,
-    member: Member<K>,
-    table: Table,
-) -> PathSeat<K>
-    requires table { IsOf path.now.table.shared.table_id path.now.size member }
-    requires holds { HoldsBoth (shows_of K.holds) table.0 member.seat.me }
-    requires through { MayGiveFlush table.0 (view_of member) }
-    requires paid { opened_in (view_of member).trail ≤ issued_in (view_of member).trail }
-    ensures same { Stays path.now.table.shared.table_id path.now.size member
-        result.member }
-    ensures steps { QuietSteps member.number table.0 0 (view_of member) (view_of result.member) }
-{
-    let mut member = member;
-    path.give_flush(&mut member, table);
-    give_sync_turn(path, member)
 }

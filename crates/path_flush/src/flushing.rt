@@ -1,11 +1,11 @@
 //! A flush of a table's memtable (`ColumnFamilyStore.Flush`). The seat takes the table's Flush
 //! turn, which it holds until it is idle again. A memtable that an earlier flush or switch left
-//! goes first. With the Sync turn beside it the newest one is switched, and the barrier waited for.
-//! The Sync turn is given back while what lies in the boxes of all seats is gathered, and taken
-//! anew behind that. Where something lay there the log is made lasting up to the memtable's bound,
-//! by at most one round of a sync, in front of which and behind which that turn is given up and
-//! taken, and the keeper puts a table file; the memtable is retired, and segments that files hold
-//! go. Then the seat gives both turns back.
+//! goes first. With the Sync turn beside it the newest one is switched, and a barrier issued. That
+//! turn is given back while the barrier is waited for and what lies in the boxes of all seats is
+//! gathered, and taken anew behind that. Where something lay there the log is made lasting up to
+//! the memtable's bound, by at most one round of a sync, in front of which and behind which that
+//! turn is given up and taken, and the keeper puts a table file; the memtable is retired, and
+//! segments that files hold go. Then the seat gives both turns back.
 ghost use Rattle.std.specs.Prelude.{◌^◌, ◌≡◌, ◌+◌, ◌<◌, ◌≤◌, ℕ, true, Some};
 ghost use Rattle.path_core.specs.declared.seat.Switching.TheVariants.{Settled};
 ghost use Rattle.path_core.specs.Parts.{stage_of};
@@ -56,9 +56,9 @@ fn flush_newest<K: Keeper, A: Allocator, R: Wait>(
         → FlushesBy w table.0 2 v result.1 (view_of result.0.member) }
 {
     let member = take_sync_beside(path, rt, member, table);
-    let (member, _bound) = switch_table(path, rt, member, table, newest);
+    let (member, _bound, group) = switch_table(path, rt, member, table, newest);
     let (member, answer) = retire_memtable(path, rt, alloc, member, table, newest);
-    (end_flush(path, rt, member, table), answer)
+    (end_flush(path, rt, member, table, group), answer)
 }
 
 // The same behind a memtable that was left. It looks until it finds the newest as the only one in
@@ -141,8 +141,8 @@ fn flush_taken<K: Keeper, A: Allocator, R: Wait>(
 /// table, and issues at most three barriers: that of this one, and one of a sync for its table file
 /// and for that of one that was left. By `Busy` it does neither.
 ///
-/// Others sync, and flush other tables, while the cells of the table file are gathered; while the
-/// file is put they wait. No clause says that it returns.
+/// Others sync, and flush other tables, while the barrier is waited for, and while the cells of the
+/// table file are gathered; while the file is put they wait. No clause says that it returns.
 pub fn flush_memtable<K: Keeper, A: Allocator, R: Wait>(
     path: &PathTable<K, A>,
     rt: &R,

@@ -10,6 +10,7 @@ mod flush_filing;
 mod flush_gathering;
 mod flush_lasting;
 mod flush_noting;
+mod flush_passing;
 mod flush_reading;
 mod flush_retire;
 mod flush_retiring;

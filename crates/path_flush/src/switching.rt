@@ -1,17 +1,16 @@
 //! A switch of a table's memtable (`ColumnFamilyStore.Flush`, before it writes). The seat takes the
 //! table's Flush turn, and beside it the Sync turn; it makes the next memtable, and the newest one
-//! so far final; it waits for the barrier, and looks into the boxes of all seats. Then it gives
-//! both turns back, and is idle again.
+//! so far final. With the table's turn alone it waits for the barrier, and looks into the boxes of
+//! all seats. Then it gives that turn back too, and is idle again.
 ghost use Rattle.std.specs.Prelude.{◌^◌, ◌≡◌, ◌<◌, ◌≤◌, ℕ, None, Some};
 ghost use Rattle.path_core.specs.declared.seat.Switching.TheVariants.{Settled};
 ghost use Rattle.path_core.specs.Parts.{stage_of};
 ghost use Rattle.path_rule.specs.declared.view.View.{View};
 ghost use Rattle.path_rule.specs.Issued.{issued_in, most_issued, opened_in};
-ghost use Rattle.path_rule.specs.Lasts.{shows_of};
 ghost use Rattle.path_rule.specs.Switches.{FlushNewest, FlushOldest};
 ghost use Rattle.path_table.specs.Members.{view_of, part_of, hands_of, IsOf};
 ghost use Rattle.path_flush.specs.FlushSteps.{QuietSteps, UnswitchedSteps};
-ghost use Rattle.path_flush.specs.FlushTurns.{HoldsBoth, HoldsTable, IsDrained};
+ghost use Rattle.path_flush.specs.FlushTurns.{HasTable, HoldsTable, IsDrained};
 ghost use Rattle.path_flush.specs.Switched.{HadTurn, IsSettled, Switches};
 ghost use Rattle.path_flush.specs.Seats.{Stays};
 
@@ -44,20 +43,23 @@ pub(crate) fn leave_table<K: Keeper, A: Allocator>(
     give_flush_turn(path, member, table)
 }
 
-// Looks whether the memtable holds something, behind its passed barrier, and retires it where it
-// does not. Both turns are given back.
-fn settle<K: Keeper, A: Allocator>(
+// Looks whether the memtable holds something, behind its passed barrier, which is that of this
+// group, and retires it where it does not. The table's turn is given back. No clause says that it
+// returns.
+fn settle<K: Keeper, A: Allocator, R: Wait>(
     path: &PathTable<K, A>,
+    rt: &R,
     alloc: Global,
     member: Member<K>,
     table: Table,
     memtable: u64,
     bound: Key,
+    group: u64,
 ) -> (PathSeat<K>, Switch)
     requires table { IsOf path.now.table.shared.table_id path.now.size member }
     requires there { memtable < 2 ^ 47 }
-    requires holds { HoldsBoth (shows_of K.holds) table.0 member.seat.me }
-    requires drained { IsDrained table.0 memtable bound.0 (view_of member) }
+    requires holds { HasTable table.0 member.seat.me }
+    requires drained { IsDrained table.0 memtable group (view_of member) }
     requires unread { (hands_of member).reading ≡ None }
     requires paid { opened_in (view_of member).trail ≤ issued_in (view_of member).trail }
     ensures same { Stays path.now.table.shared.table_id path.now.size member
@@ -71,11 +73,14 @@ fn settle<K: Keeper, A: Allocator>(
     let (member, empty) = read_boxes(path, alloc, member, table, memtable, above);
     if empty {
         (
-            leave_empty(path, member, table, memtable),
+            leave_empty(path, rt, member, table, memtable, group),
             Switch::Empty(bound),
         )
     } else {
-        (leave_filled(path, member, table), Switch::Left(bound))
+        (
+            leave_filled(path, rt, member, table, group),
+            Switch::Left(bound),
+        )
     }
 }
 
@@ -103,8 +108,8 @@ fn switch_newest<K: Keeper, A: Allocator, R: Wait>(
         → member.number ≡ w → Switches w table.0 v result.1 (view_of result.0.member) }
 {
     let member = take_sync_beside(path, rt, member, table);
-    let (member, bound) = switch_table(path, rt, member, table, newest);
-    settle(path, alloc, member, table, newest, bound)
+    let (member, bound, group) = switch_table(path, rt, member, table, newest);
+    settle(path, rt, alloc, member, table, newest, bound, group)
 }
 
 /// Switches a table's memtable: what was live until then takes no write that begins later

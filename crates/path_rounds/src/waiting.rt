@@ -1,28 +1,29 @@
-//! Barriers that wait until all operations before them are closed (`OpOrder.Barrier.await`): of the
-//! write order, and of the append order for the last marker.
+//! Barriers: of the write order, issued for a switched memtable, and of the append order for the
+//! last marker, where the call waits until all operations before it are closed
+//! (`OpOrder.Barrier.await`).
 ghost use Rattle.std.specs.Prelude.{◌^◌, ◌*◌, ◌≡◌, ℕ, suc, ◌+◌, ◌<◌, ◌≤◌, true, [], Some};
 ghost use Rattle.op_core.specs.declared.count.Order.TheVariants.{Write, Append};
 ghost use Rattle.path_core.specs.declared.event.Event.TheVariants.{Advance};
 ghost use Rattle.path_core.specs.declared.seat.Issue.TheVariants.{Rest};
 ghost use Rattle.path_core.specs.declared.seat.Switching.TheVariants.{Waiting, WithBarrier};
 ghost use Rattle.path_core.specs.Holders.{HasWaiting};
-ghost use Rattle.path_core.specs.Parts.{found_of, marker_of, stage_of};
+ghost use Rattle.path_core.specs.Parts.{marker_of, stage_of};
 ghost use Rattle.path_rule.specs.Calls.{Holds, IsPast};
 ghost use Rattle.path_rule.specs.HandsAfter.{issued_hands};
 ghost use Rattle.path_rule.specs.Issued.{issued_in, most_issued};
 ghost use Rattle.path_rule.specs.Rounds.{RoundSteps};
 ghost use Rattle.path_rule.specs.Switches.{FlushOldest};
-ghost use Rattle.path_rule.specs.Turns.{FoundPast, FoundRunning, MarkerWaits, TurnSaw, TurnOld};
+ghost use Rattle.path_rule.specs.Turns.{FoundRunning, MarkerWaits, TurnSaw, TurnOld};
 ghost use Rattle.path_rule.specs.Turns.{TurnGone, KeepsCurrent};
 ghost use Rattle.path_table.specs.Members.{view_of, part_of, hands_of, IsOf, KeepsSizes, Stepped};
 ghost use Rattle.path_rounds.specs.Passes.{HasIssued};
 
+use crate::pausing::wait_a_turn;
 use op_core::Order;
 use path_core::Keeper;
 use path_table::{EXPIRED, Member, ONE_GROUP, PathTable};
 use std::alloc::Allocator;
 use std::sync::Wait;
-use std::thread::yield_now;
 
 /// The seat that has the Sync turn, with no barrier under way and no box of another seat.
 #[derive(Drop)]
@@ -81,8 +82,6 @@ pub(crate) fn advance_to<K: Keeper, A: Allocator, R: Wait>(
     ensures steps { RoundSteps holder.member.number 0 [] (view_of holder.member)
         (view_of result.member) }
     ensures past { (h : ℕ) × TurnOld order (part_of result.member) h × (upto ≤ h) }
-    ensures found { (h : ℕ) × ((found_of order (part_of result.member)).oldest ≡ Some h)
-        × (upto ≤ h) }
     ensures marker { marker_of (part_of result.member) ≡ marker_of (part_of holder.member) }
     ensures runs { FoundRunning (part_of holder.member) → FoundRunning (part_of result.member) }
     ensures saw { TurnSaw order (part_of result.member) current }
@@ -92,6 +91,7 @@ pub(crate) fn advance_to<K: Keeper, A: Allocator, R: Wait>(
         ≡ stage_of (part_of holder.member) t }
 {
     let Holder { mut member } = holder;
+    let mut waited = 0;
     for _ in rt.forever() {
         let oldest = path.seek_oldest(&mut member, order);
         if oldest >= upto {
@@ -101,7 +101,7 @@ pub(crate) fn advance_to<K: Keeper, A: Allocator, R: Wait>(
         if count == ONE_GROUP * oldest + EXPIRED {
             advance(path, &mut member, order, oldest + 1, oldest, current);
         } else {
-            yield_now();
+            waited = wait_a_turn(rt, waited);
         }
     }
     unreachable!()
@@ -132,11 +132,12 @@ fn make_room<K: Keeper, A: Allocator, R: Wait>(
     advance_to(path, rt, holder, order, current, current.saturating_sub(30))
 }
 
-/// Issues a barrier of the write order behind the group that the member found current, and
-/// waits until it is passed. A switched memtable of a table whose turn the member has waits for
-/// its barrier: it has this one then. It waits for a word of the next group too. No clause says
-/// that it returns.
-pub fn write_barrier<K: Keeper, A: Allocator, R: Wait>(
+/// Issues a barrier of the write order behind the group that the member found current: it is passed
+/// once the oldest group is a later one. A switched memtable of a table whose turn the member has
+/// waits for its barrier: it has this one then. It waits for a word of the next group: at most one
+/// barrier of each table is issued and not passed, so it waits for no write. No clause says that it
+/// returns.
+pub fn issue_write<K: Keeper, A: Allocator, R: Wait>(
     path: &PathTable<K, A>,
     rt: &R,
     holder: Holder<K>,
@@ -149,9 +150,7 @@ pub fn write_barrier<K: Keeper, A: Allocator, R: Wait>(
     ensures same { KeepsSizes holder.member result.member }
     ensures steps { RoundSteps holder.member.number 1 [] (view_of holder.member)
         (view_of result.member) }
-    ensures passed { IsPast Write (view_of result.member) current
-        × (hands_of result.member ≡ hands_of holder.member) }
-    ensures found { FoundPast (part_of result.member) current }
+    ensures hands { hands_of result.member ≡ hands_of holder.member }
     ensures issues { HasIssued Write holder.member.number current (view_of holder.member)
         (view_of result.member) }
     ensures pays { issued_in (view_of holder.member).trail
@@ -168,42 +167,7 @@ pub fn write_barrier<K: Keeper, A: Allocator, R: Wait>(
     path.open_write(&mut member, current + 1, current);
     path.move_write(&mut member, current + 1, current);
     path.expire_write(&mut member, current, current + 1);
-    advance_to(
-        path,
-        rt,
-        Holder { member },
-        Order::Write,
-        current + 1,
-        current + 1,
-    )
-}
-
-/// Waits until all groups of the write order before the current one are finished: so is the
-/// barrier of each memtable of a table whose turn the member has. No clause says that it
-/// returns.
-pub fn pass_all<K: Keeper, A: Allocator, R: Wait>(
-    path: &PathTable<K, A>,
-    rt: &R,
-    holder: Holder<K>,
-) -> Holder<K>
-    requires { IsOf path.now.table.shared.table_id path.now.size holder.member }
-    ensures same { KeepsSizes holder.member result.member }
-    ensures steps { RoundSteps holder.member.number 0 [] (view_of holder.member)
-        (view_of result.member) }
-    ensures hands { hands_of result.member ≡ hands_of holder.member }
-    ensures passed { (t memtable group : ℕ)
-        → stage_of (part_of holder.member) t ≡ Some (WithBarrier memtable group)
-        → (stage_of (part_of result.member) t ≡ Some (WithBarrier memtable group))
-        × IsPast Write (view_of result.member) group }
-    ensures found { (t memtable group : ℕ)
-        → stage_of (part_of holder.member) t ≡ Some (WithBarrier memtable group)
-        → FoundPast (part_of result.member) group }
-{
-    let Holder { mut member } = holder;
-    let current = path.seek_current(&mut member, Order::Write);
-    // A look behind the one at the current group: it tells that no barrier is of a later one.
-    let _oldest = path.seek_oldest(&mut member, Order::Write);
-    advance_to(path, rt, Holder { member }, Order::Write, current, current)
+    Holder { member }
 }
 
 /// Issues the barrier of the last marker, which is the member's own and has none, and waits

@@ -9,7 +9,8 @@ ghost use Rattle.write_path.specs.Applies.{HoldsUpdates, IsUnappliedFrom};
 ghost use Rattle.write_path.specs.Ends.{IsSameWrite, IsUntriedFrom};
 ghost use Rattle.write_path.specs.Writes.{IsPrepared};
 
-use crate::commits::place_of;
+use crate::commits::{done, place_of};
+use crate::issuing::may_issue;
 use crate::turns::find_flush;
 use clog_base::{Key, Position, Sizes, Table};
 use path_core::Keeper;
@@ -49,18 +50,22 @@ fn ask_two<K: Keeper>(
 }
 
 // What a write of table 0 found: where it ends, the memtable that refused it and its bound, and
-// what another seat found at the table's turn before it ended.
+// what another seat found at the table's turn before it ended, and where the log was lasting by a
+// sync of that seat.
 #[derive(Clone, Copy, Debug, PartialEq, Eq)]
 pub(crate) struct Late {
     pub(crate) end: Position,
     pub(crate) refused: u64,
     pub(crate) bound: Position,
     pub(crate) turn: u64,
+    pub(crate) synced: Option<Position>,
 }
 
 // A deposited write is refused by one memtable and put into the next. Before it ends another seat
-// looks at the table's turn.
-fn end_above<K: Keeper>(
+// looks at the table's turn, and syncs: the flush that waits for the write does not hold that up.
+fn end_above<R: Wait, K: Keeper>(
+    rt: &R,
+    alloc: Global,
     path: &WritePath<K, Global>,
     seat: Deposited<K>,
     rest: Prepared,
@@ -81,13 +86,16 @@ fn end_above<K: Keeper>(
     let mut rest = rest;
     let (seat, refused, bound) = ask_two(path, seat)?;
     let seat = path.apply(seat, Table(0), refused + 1, &mut rest);
-    let (_beside, turn) = find_flush(path, beside, 0);
+    let (beside, turn) = find_flush(path, beside, 0);
+    may_issue(&beside).ok()?;
+    let (_beside, answer) = path.sync(rt, alloc, beside);
     let _seat = path.finish(seat);
     Some(Late {
         end,
         refused,
         bound: place_of(bound),
         turn,
+        synced: done(answer),
     })
 }
 
@@ -120,6 +128,7 @@ fn await_barrier<R: Wait, K: Keeper>(
 // A write that has begun goes on behind a flush's barrier.
 pub(crate) fn write_above<R: Wait, K: Keeper>(
     rt: &R,
+    alloc: Global,
     path: &WritePath<K, Global>,
     sizes: Sizes,
     seat: Appending<K>,
@@ -138,5 +147,5 @@ pub(crate) fn write_above<R: Wait, K: Keeper>(
         return None;
     };
     let (deposited, rest) = path.deposit(claimed, write);
-    end_above(path, deposited, rest, beside)
+    end_above(rt, alloc, path, deposited, rest, beside)
 }

@@ -15,7 +15,7 @@ use clog_base::{Sizes, Table};
 use op_core::Order;
 use path_core::Keeper;
 use path_machine::ListKeeper;
-use path_rounds::{Advance, Holder, try_advance, write_barrier};
+use path_rounds::{Advance, Holder, issue_write, try_advance};
 use path_rule::PathSize;
 use path_table::{Member, ONE_GROUP, Opener, PathSeat, PathTable, open};
 use std::alloc::Global;
@@ -132,8 +132,9 @@ fn a_barrier_passes(rt: HostRuntime) -> Result<(), Fail> {
         return Err(Fail::new("the other seat did not start"));
     };
     let _one = table.stop(begun);
-    let Holder { mut member } = write_barrier(&table, &rt, Holder { member: zero }, 0);
-    assert_eq!(&rt; table.seek_current(&mut member, Order::Write), 1);
+    let Holder { mut member } = issue_write(&table, &rt, Holder { member: zero }, 0);
+    let moved = try_advance(&table, &mut member, Order::Write);
+    assert_eq!(&rt; moved, Advance::Moved(1));
     Ok(())
 }
 

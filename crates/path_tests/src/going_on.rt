@@ -1,6 +1,6 @@
 //! A flush and a write that began before the flush's barrier, in two threads: the write goes on
 //! above the flush's bound, the flush waits until it has ended, and only the next flush's file has
-//! it.
+//! it. Another seat's sync does not wait for the write.
 ghost use Rattle.std.specs.Prelude.{◌^◌, ◌≡◌, ◌<◌, true, IfOk};
 ghost use Rattle.clog_mutation.specs.declared.mutation.Mutation.{Mutation};
 ghost use Rattle.path_table.specs.Members.{IsOf};
@@ -110,7 +110,7 @@ fn flush_beside_write<R: Threads + Wait + Sync>(
                 × ((m : Mutation) × IsPrepared sizes 2 m write)
                 × (sizes.tables ≡ 16) × (sizes.tables ≡ path.now.table.size.tables)
                 × (sizes.capacity ≡ path.now.table.size.capacity) }
-        { write_above(rt, path, sizes, one, write, two) },
+        { write_above(rt, alloc, path, sizes, one, write, two) },
     );
     Ok((files?, late))
 }
@@ -123,6 +123,7 @@ fn a_write_above_a_bound_goes_to_the_next_memtable(rt: HostRuntime) -> Result<()
         refused: 0,
         bound: place(60),
         turn: 1,
+        synced: Some(place(92)),
     };
     let files = [flushed(first), flushed(second)];
     let intervals = [Some((0, place(60))), Some((60, place(100)))];

@@ -6,7 +6,7 @@ use Rattle.path_rule.specs.Lasts.{shows_of}
 use Rattle.path_rule.specs.Retires.{RetiresEmptyIn}
 use Rattle.path_rule.specs.Rule.{Was}
 use Rattle.path_flush.proofs.FilingGoes.{unswitched_one}
-use Rattle.path_flush.proofs.FlushRetires.{both_put, past_put, stage_put}
+use Rattle.path_flush.proofs.FlushRetires.{both_put, stage_put}
 use Rattle.path_flush.proofs.flush_retire.retire_read.Goals as goal
 
 pub retire_empty-requires-clause-there : goal.retire_empty-requires-clause-there
@@ -34,11 +34,6 @@ pub returns-clause-stage : goal.returns-clause-stage
 returns-clause-stage g c = let m = c.args.member in let R = c.retire_empty in
     stage_put m.seat.me.0 R.new.member.seat.me.0 m.number (c.args.memtable + 1) c.args.table
     (c.args.memtable + 1) _ R.ensures.step c.args.table.0
-
-pub returns-clause-past : goal.returns-clause-past
-returns-clause-past g c = let m = c.args.member in let R = c.retire_empty in
-    past_put m.seat.me.0 R.new.member.seat.me.0 m.number (c.args.memtable + 1) c.args.table
-    (c.args.memtable + 1) _ R.ensures.step
 
 pub returns-clause-unread : goal.returns-clause-unread
 returns-clause-unread g c = ap (λ (u : View). u.hands.reading) c.retire_empty.ensures.step.view

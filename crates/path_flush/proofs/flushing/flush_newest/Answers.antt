@@ -1,5 +1,4 @@
-use Rattle.std.proofs.Common.{◌≤◌, [], inl, inr, ap, ◌∙◌, subst, arith}
-use Rattle.path_rule.specs.declared.view.Hands.{Hands}
+use Rattle.std.proofs.Common.{◌≤◌, [], inl, inr, ◌∙◌, subst, arith}
 use Rattle.path_rule.proofs.seats.RoundsGo.{issued_by as round_issued}
 use Rattle.path_flush.specs.FlushSteps.{Finalises}
 use Rattle.path_flush.specs.Opens.{opens}
@@ -38,7 +37,7 @@ switch_table-member-requires-clause-numbers g c = let w = c.args.member.number i
 pub retire_memtable-member-requires-clause-stage : goal.retire_memtable-member-requires-clause-stage
 retire_memtable-member-requires-clause-stage g c =
     let D = c.switch_table-member.ensures.switched.drained in
-    inl (D.group, D.stage, inl D.past)
+    inl (c.switch_table-member.result.2, D.stage, inr D.past)
 
 pub retire_memtable-member-requires-clause-oldest :
     goal.retire_memtable-member-requires-clause-oldest
@@ -48,7 +47,7 @@ retire_memtable-member-requires-clause-oldest g c =
 pub retire_memtable-member-requires-clause-unread :
     goal.retire_memtable-member-requires-clause-unread
 retire_memtable-member-requires-clause-unread g c =
-    ap (λ (h : Hands). h.reading) c.switch_table-member.ensures.switched.hands
+    c.switch_table-member.ensures.switched.reading
     ∙ (c.take_sync_beside-member.ensures.steps.reading ∙ c.requires.holds.unread)
 
 pub retire_memtable-member-requires-clause-spends :
@@ -58,13 +57,12 @@ retire_memtable-member-requires-clause-spends g c = let T = c.take_sync_beside-m
     let then = issued_by T.result.number _ _ c.switch_table-member.ensures.switched.made in
     let low = c.requires.numbers.1 in omega (arith, first, then, low)
 
-pub end_flush-requires-clause-barred : goal.end_flush-requires-clause-barred
-end_flush-requires-clause-barred g c = let D = c.switch_table-member.ensures.switched.drained in
-    inr (
-      c.args.newest,
-      D.group,
-      c.retire_memtable-member.ensures.retired.steps.stage ∙ D.stage,
-    )
+pub end_flush-requires-clause-barrier : goal.end_flush-requires-clause-barrier
+end_flush-requires-clause-barrier g c = (
+  c.args.newest,
+  c.retire_memtable-member.ensures.retired.steps.stage
+      ∙ c.switch_table-member.ensures.switched.drained.stage,
+)
 
 pub end_flush-requires-clause-paid : goal.end_flush-requires-clause-paid
 end_flush-requires-clause-paid g c = let W = c.switch_table-member in

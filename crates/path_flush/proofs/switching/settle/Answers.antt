@@ -1,27 +1,53 @@
-use Rattle.std.proofs.Common.{refl, ◌∙◌}
+use Rattle.std.proofs.Common.{◌<◌, inl, inr, refl, ◌∙◌, subst}
+use Rattle.path_rule.specs.declared.view.PathSize.{PathSize}
 use Rattle.path_flush.proofs.FilingGoes.{then_unswitched}
 use Rattle.path_flush.proofs.FlushPays.{paid_on}
 use Rattle.path_flush.proofs.FlushReadSteps.{then_read}
-use Rattle.path_flush.proofs.SwitchGoes.{past_read, retires_behind}
+use Rattle.path_flush.proofs.SwitchGoes.{retires_behind}
 use Rattle.path_flush.proofs.switching.settle.Goals as goal
 
-pub leave_empty-requires-clause-passed : goal.leave_empty-requires-clause-passed
-leave_empty-requires-clause-passed g c = let S = c.start_read-member.ensures in
-    let B = c.read_boxes-member.ensures in let w = c.args.member.number in
-    let D = c.requires.drained in let R = then_read w _ c.args.table.0 _ _ _ S.same.0.1 S.steps
-    B.steps in
-    (D.group, R.stage ∙ D.stage, past_read w c.args.table.0 D.group _ _ R D.past)
+pub start_read-member-requires-clause-there : goal.start_read-member-requires-clause-there
+start_read-member-requires-clause-there g c = (
+  subst (λ (z : PathSize). c.args.table.0 < z.tables) c.requires.table.1
+      c.requires.holds.holder.there,
+  c.requires.there,
+)
 
-pub leave_filled-requires-clause-passed : goal.leave_filled-requires-clause-passed
-leave_filled-requires-clause-passed g c = let S = c.start_read-member.ensures in
-    let B = c.read_boxes-member.ensures in let w = c.args.member.number in
-    let D = c.requires.drained in let R = then_read w _ c.args.table.0 _ _ _ S.same.0.1 S.steps
-    B.steps in (
-      c.args.memtable,
-      D.group,
-      R.stage ∙ D.stage,
-      past_read w c.args.table.0 D.group _ _ R D.past,
-    )
+pub start_read-member-requires-clause-stage : goal.start_read-member-requires-clause-stage
+start_read-member-requires-clause-stage g c = let D = c.requires.drained in
+    inl (c.args.group, D.stage, inr D.past)
+
+pub leave_empty-requires-clause-holds : goal.leave_empty-requires-clause-holds
+leave_empty-requires-clause-holds g c = let S = c.start_read-member.ensures in
+    let B = c.read_boxes-member.ensures in let H = c.requires.holds in
+    let R = then_read c.args.member.number _ c.args.table.0 _ _ _ S.same.0.1 S.steps B.steps in
+    record {
+      holder = R.holder H.holder;
+      unsynced = R.sync ∙ H.unsynced;
+      bare = B.same.1 ∙ (S.same.1 ∙ H.bare);
+    }
+
+pub leave_filled-requires-clause-holds : goal.leave_filled-requires-clause-holds
+leave_filled-requires-clause-holds g c = let S = c.start_read-member.ensures in
+    let B = c.read_boxes-member.ensures in let H = c.requires.holds in
+    let R = then_read c.args.member.number _ c.args.table.0 _ _ _ S.same.0.1 S.steps B.steps in
+    record {
+      holder = R.holder H.holder;
+      unsynced = R.sync ∙ H.unsynced;
+      bare = B.same.1 ∙ (S.same.1 ∙ H.bare);
+    }
+
+pub leave_empty-requires-clause-barrier : goal.leave_empty-requires-clause-barrier
+leave_empty-requires-clause-barrier g c = let S = c.start_read-member.ensures in
+    let B = c.read_boxes-member.ensures in
+    let R = then_read c.args.member.number _ c.args.table.0 _ _ _ S.same.0.1 S.steps B.steps in
+    R.stage ∙ c.requires.drained.stage
+
+pub leave_filled-requires-clause-barrier : goal.leave_filled-requires-clause-barrier
+leave_filled-requires-clause-barrier g c = let S = c.start_read-member.ensures in
+    let B = c.read_boxes-member.ensures in
+    let R = then_read c.args.member.number _ c.args.table.0 _ _ _ S.same.0.1 S.steps B.steps in
+    (c.args.memtable, R.stage ∙ c.requires.drained.stage)
 
 pub returns-then-empty-clause-steps : goal.returns-then-empty-clause-steps
 returns-then-empty-clause-steps g c = let S = c.start_read-member.ensures in

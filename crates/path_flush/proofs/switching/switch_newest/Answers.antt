@@ -1,5 +1,4 @@
-use Rattle.std.proofs.Common.{[], ap, ◌∙◌, subst, arith}
-use Rattle.path_rule.specs.declared.view.Hands.{Hands}
+use Rattle.std.proofs.Common.{[], ◌∙◌, subst, arith}
 use Rattle.path_rule.proofs.seats.RoundsGo.{issued_by as round_issued}
 use Rattle.path_flush.specs.FlushSteps.{Finalises}
 use Rattle.path_flush.proofs.FlushBarring.{final_before}
@@ -31,8 +30,7 @@ pub settle-requires-clause-drained : goal.settle-requires-clause-drained
 settle-requires-clause-drained g c = c.switch_table-member.ensures.switched.drained
 
 pub settle-requires-clause-unread : goal.settle-requires-clause-unread
-settle-requires-clause-unread g c =
-    ap (λ (h : Hands). h.reading) c.switch_table-member.ensures.switched.hands
+settle-requires-clause-unread g c = c.switch_table-member.ensures.switched.reading
     ∙ (c.take_sync_beside-member.ensures.steps.reading ∙ c.requires.holds.unread)
 
 pub settle-requires-clause-paid : goal.settle-requires-clause-paid

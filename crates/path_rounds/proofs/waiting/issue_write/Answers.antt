@@ -2,45 +2,40 @@ use Rattle.std.proofs.Common.{get_or, ◌*◌, List, ◌≡◌, suc, ◌+◌, []
 use Rattle.op_core.specs.declared.count.Order.TheVariants.{Write}
 use Rattle.path_core.specs.declared.event.Event.TheVariants.{OpenGroup, MoveCurrent, Expire}
 use Rattle.path_core.specs.declared.seat.SeatTable.{SeatTable}
-use Rattle.path_core.specs.Parts.{untouched, seat_table}
+use Rattle.path_core.specs.Parts.{untouched}
 use Rattle.path_rule.specs.declared.view.OwnStep.{OwnStep}
 use Rattle.path_rule.specs.declared.view.View.{View}
 use Rattle.path_rule.specs.Issued.{issued_in}
 use Rattle.path_rule.proofs.log.Issues.{issued_both}
-use Rattle.path_rule.proofs.seats.BarredTables.{barred_quiet, least_expired, least_moved}
+use Rattle.path_rule.proofs.seats.BarredTables.{least_expired, least_moved}
 use Rattle.path_rule.proofs.seats.BarredTables.{least_opened, least_quiet}
 use Rattle.path_rule.proofs.seats.RoundsGo.{issued_by, one, next}
 use Rattle.path_rounds.proofs.BarrierIssues.{issues}
-use Rattle.path_rounds.proofs.waiting.write_barrier.Goals as goal
+use Rattle.path_rounds.proofs.waiting.issue_write.Goals as goal
 
 pub returns-clause-steps : goal.returns-clause-steps
 returns-clause-steps g c =
     let w = c.args.holder.member.number in let cur = c.args.current in
     let O = c.open_write.ensures in let M = c.move_write.ensures in
-    let E = c.expire_write in let A = c.advance_to.ensures in
+    let E = c.expire_write in
     let B = c.make_room-member.ensures in let b = B.same.1 in let s = O.same.1 ∙ b in
-    let m = M.same.1 ∙ s in let e = E.ensures.same.1 ∙ m in
-    next w _ [] [] _ _ _ e (next w _ [] [] _ _ _ m (next w _ [] [] _ _ _ s
-    (next w _ [] [] _ _ _ b B.steps
+    let m = M.same.1 ∙ s in
+    next w _ [] [] _ _ _ m (next w _ [] [] _ _ _ s (next w _ [] [] _ _ _ b B.steps
     (one _ (OpenGroup _ Write (cur + 1)) (65536 * (cur + 1)) _ _ refl O.step))
     (one _ (MoveCurrent _ Write (cur + 1)) cur _ _ refl M.step))
-    (one _ (Expire _ Write cur) E.result _ _ refl E.ensures.step)) A.steps
+    (one _ (Expire _ Write cur) E.result _ _ refl E.ensures.step)
 
-pub returns-clause-passed : goal.returns-clause-passed
-returns-clause-passed g c =
-    let past = c.advance_to.ensures.past in let high = past.2 in (
-      (past.0, past.1, omega arith),
-      c.advance_to.ensures.hands ∙ (ap (λ (v : View). v.hands) c.expire_write.ensures.step.view
-          ∙ (ap (λ (v : View). v.hands) c.move_write.ensures.step.view
-          ∙ (ap (λ (v : View). v.hands) c.open_write.ensures.step.view
-          ∙ c.make_room-member.ensures.hands))),
-    )
+pub returns-clause-hands : goal.returns-clause-hands
+returns-clause-hands g c = ap (λ (v : View). v.hands) c.expire_write.ensures.step.view
+    ∙ (ap (λ (v : View). v.hands) c.move_write.ensures.step.view
+    ∙ (ap (λ (v : View). v.hands) c.open_write.ensures.step.view
+    ∙ c.make_room-member.ensures.hands))
 
 pub returns-clause-issued : goal.returns-clause-issued
 returns-clause-issued g c =
-    λ t f waits. c.advance_to.ensures.stages t ∙ (c.expire_write.ensures.stages t
+    λ t f waits. c.expire_write.ensures.stages t
     ∙ c.move_write.ensures.issued t f (c.open_write.ensures.stages t
-    ∙ (c.make_room-member.ensures.stages t ∙ waits)))
+    ∙ (c.make_room-member.ensures.stages t ∙ waits))
 
 pub returns-clause-issues : goal.returns-clause-issues
 returns-clause-issues g c =
@@ -60,9 +55,10 @@ returns-clause-issues g c =
       found = 65536 * (cur + 1);
       filed = None;
     } ∷ B.ensures.steps.steps)
-    c.advance_to.ensures.steps.steps (λ i. MoveCurrent (s i) Write (more i))
+    [] (λ i. MoveCurrent (s i) Write (more i))
     (λ i. Expire (m i) Write cur)
-    _ O.new.member.seat.me.0 M.new.member.seat.me.0 E.new.member.seat.me.0 _
+    _ O.new.member.seat.me.0 M.new.member.seat.me.0 E.new.member.seat.me.0
+    E.new.member.seat.me.0
     (ap (λ (v : View). v.trail) O.ensures.step.view
     ∙ ap (λ (l : List OwnStep). record {
       event = OpenGroup B.result.member.number Write (cur + 1);
@@ -70,30 +66,20 @@ returns-clause-issues g c =
       filed = None;
     } ∷ l) B.ensures.steps.trail)
     (ap (λ (v : View). v.trail) M.ensures.step.view)
-    (ap (λ (v : View). v.trail) E.ensures.step.view)
-    c.advance_to.ensures.steps.trail
+    (ap (λ (v : View). v.trail) E.ensures.step.view) refl
 
 pub returns-clause-oldest : goal.returns-clause-oldest
 returns-clause-oldest g c =
     let w = c.args.holder.member.number in let cur = c.args.current in let O = c.open_write in
-    let M = c.move_write in let E = c.expire_write in let A = c.advance_to in
+    let M = c.move_write in let E = c.expire_write in
     let B = c.make_room-member in let v = c.args.holder.member.seat.me.0 in
     let r = B.result.member.seat.me.0 in let o = O.new.member.seat.me.0 in
     let m = M.new.member.seat.me.0 in let e = E.new.member.seat.me.0 in
-    let a = A.result.member.seat.me.0 in
-    λ t memtable k waits F. let at = E.ensures.stages t
-    ∙ M.ensures.issued t memtable (O.ensures.stages t ∙ (B.ensures.stages t ∙ waits)) in
-    least_quiet t k e a (A.ensures.steps.tables t
-    (barred_quiet memtable cur (seat_table e.part t) at))
-    (least_expired m e M.new.member.number cur E.result t k Write E.ensures.step
+    λ t memtable k waits F.
+    least_expired m e M.new.member.number cur E.result t k Write E.ensures.step
     (least_moved o m O.new.member.number (cur + 1) cur t k M.ensures.step
     (least_opened r o B.result.member.number (cur + 1) (65536 * (cur + 1)) t k Write O.ensures.step
-    (least_quiet t k v r (ap (λ (l : List SeatTable). get_or l t untouched) B.ensures.tables) F))))
-
-pub returns-clause-found : goal.returns-clause-found
-returns-clause-found g c =
-    let past = c.advance_to.ensures.found in let high = past.2 in
-    (past.0, past.1, omega arith)
+    (least_quiet t k v r (ap (λ (l : List SeatTable). get_or l t untouched) B.ensures.tables) F)))
 
 pub open_write-requires-clause-waiting : goal.open_write-requires-clause-waiting
 open_write-requires-clause-waiting g c = let W = c.requires.waiting in record {
@@ -109,11 +95,9 @@ open_write-requires-clause-turn g c = let B = c.make_room-member in
 
 pub returns-clause-pays : goal.returns-clause-pays
 returns-clause-pays g c = let B = c.make_room-member.ensures.steps in
-    let A = c.advance_to.ensures.steps in
     let before = issued_both B.steps c.args.holder.member.seat.me.0.trail in
-    let after = issued_both A.steps c.expire_write.new.member.seat.me.0.trail in
-    let first = ap issued_in B.trail in let last = ap issued_in A.trail in
+    let first = ap issued_in B.trail in
     let one_more = ap (λ (v : View). issued_in v.trail) c.open_write.ensures.step.view in
     let moved = ap (λ (v : View). issued_in v.trail) c.move_write.ensures.step.view in
     let expired = ap (λ (v : View). issued_in v.trail) c.expire_write.ensures.step.view in
-    omega (arith, before, after, first, last, one_more, moved, expired)
+    omega (arith, before, first, one_more, moved, expired)
