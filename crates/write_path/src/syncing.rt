@@ -6,25 +6,27 @@
 //! idle again. Where the keeper refused the last sync for memory and no entry came since, the same
 //! marker serves.
 ghost use Rattle.std.specs.Prelude.{◌+◌, ◌^◌, ◌≤◌};
+ghost use Rattle.path_core.specs.declared.event.Event.TheVariants.{Look};
+ghost use Rattle.path_core.specs.declared.event.Place.TheVariants.{TurnWord};
+ghost use Rattle.path_core.specs.declared.event.Turn.TheVariants.{Sync};
 ghost use Rattle.path_rule.specs.Issued.{issued_in};
 ghost use Rattle.path_rule.specs.SyncAnswers.{MayAnswer};
-ghost use Rattle.path_table.specs.Members.{view_of, IsOf};
+ghost use Rattle.path_table.specs.Members.{view_of, IsOf, Stepped};
 ghost use Rattle.write_path.specs.Syncs.{Syncs};
 ghost use Rattle.path_flush.specs.Seats.{Stays};
 
 use crate::seats::WritePath;
 use path_core::Keeper;
-use path_rounds::sync_round;
+use path_rounds::{sync_round, wait_a_turn};
 use path_rule::SyncAnswer;
 use path_table::PathSeat;
 use std::alloc::{Allocator, Global};
 use std::sync::Wait;
-use std::thread::yield_now;
 
 impl<K: Keeper, A: Allocator> WritePath<K, A> {
-    // One round of a sync, where the Sync turn is found free; the turn is given back. `None` where
-    // another seat has the turn, or left the last marker without a barrier.
-    fn try_sync<R: Wait>(
+    // One round of a sync, where the Sync turn is free; the turn is given back. `None` where another
+    // seat has the turn, or left the last marker without a barrier.
+    fn sync_free<R: Wait>(
         &self,
         rt: &R,
         alloc: Global,
@@ -44,6 +46,41 @@ impl<K: Keeper, A: Allocator> WritePath<K, A> {
         let (mut member, answer) = sync_round(&self.table, rt, alloc, member);
         self.table.give_sync(&mut member);
         (PathSeat { member }, answer)
+    }
+
+    // The word of the Sync turn, which is 0 where nobody has it.
+    fn look_turn(&self, seat: PathSeat<K>) -> (PathSeat<K>, u64)
+        requires { IsOf self.now.table.table.shared.table_id self.now.table.size seat.member }
+        ensures same { Stays self.now.table.table.shared.table_id self.now.table.size seat.member
+            result.0.member }
+        ensures looked { Stepped seat.member (Look seat.member.number (TurnWord Sync)) result.1
+            result.0.member }
+    {
+        let PathSeat { mut member } = seat;
+        let found = self.table.look_turn(&mut member);
+        (PathSeat { member }, found)
+    }
+
+    // The same, but who waits looks first, and leaves a turn that is taken to others: a failed
+    // exchange would take the word from who works.
+    fn try_sync<R: Wait>(
+        &self,
+        rt: &R,
+        alloc: Global,
+        seat: PathSeat<K>,
+    ) -> (PathSeat<K>, Option<SyncAnswer>)
+        requires table { IsOf self.now.table.table.shared.table_id self.now.table.size seat.member }
+        requires spends { issued_in (view_of seat.member).trail ≤ 2 ^ 40 }
+        ensures same { Stays self.now.table.table.shared.table_id self.now.table.size seat.member
+            result.0.member }
+        ensures answer { MayAnswer seat.member.number 1 self.now.table.size.at_open
+            (view_of seat.member) result.1 (view_of result.0.member) }
+    {
+        let (seat, found) = self.look_turn(seat);
+        if found != 0 {
+            return (seat, None);
+        }
+        self.sync_free(rt, alloc, seat)
     }
 
     // Whether the log is lasting already up to where the seat's last write ends.
@@ -107,12 +144,13 @@ impl<K: Keeper, A: Allocator> WritePath<K, A> {
             ≤ 1 + issued_in (view_of seat.member).trail }
     {
         let mut seat = seat;
+        let mut waited = 0;
         for _ in rt.forever() {
             let (next, answer) = self.sync_once(rt, alloc, seat);
             seat = next;
             match answer {
                 Some(answer) => return (seat, answer),
-                None => yield_now(),
+                None => waited = wait_a_turn(rt, waited),
             }
         }
         unreachable!()
