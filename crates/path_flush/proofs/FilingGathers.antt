@@ -3,7 +3,9 @@ use Rattle.std.proofs.Common.{
   ◌≡◌,
   ℕ,
   ◌||◌,
-  cond,
+  not,
+  nat_eq,
+  ne_eqb,
   Bool,
   true,
   false,
@@ -28,7 +30,6 @@ use Rattle.std.proofs.Common.{
   IfSome,
 }
 use Rattle.std.proofs.lemmas.List.{append-nil}
-use Rattle.std.specs.List.{filter, list_any}
 use Rattle.clog_base.specs.declared.cell.Cell.{Cell}
 use Rattle.clog_base.specs.declared.cell.CellKey.{CellKey}
 use Rattle.clog_base.specs.declared.cell.Table.{Table}
@@ -61,16 +62,14 @@ use Rattle.path_flush.specs.FlushGathers.{
 
 -- ---- something or nothing
 
--- the entries that pass a test are some where one does
-pub kept_some : (p : EntryNote → Bool) (l : List EntryNote)
-    → AreSome (list_any p l) (filter p l)
-kept_some p [] = refl
-kept_some p (x ∷ xs) = by (p x) (kept_some p xs)
+-- a list of another length than 0 is of some
+pub some_by_length : (l : List EntryNote) → AreSome (not (nat_eq (length l) 0)) l
+some_by_length [] = refl
+some_by_length (x ∷ xs) = subst (λ (b : Bool). AreSome (not b) (x ∷ xs))
+    (sym (ne_eqb (length (x ∷ xs)) 0 (λ e. omega (arith, e)))) by
   where
-    by : (b : Bool) → AreSome (list_any p xs) (filter p xs)
-        → AreSome (b || list_any p xs) (cond b (x ∷ filter p xs) (filter p xs))
-    by true older = λ none. let long = ap length none in omega (arith, long)
-    by false older = older
+    by : AreSome true (x ∷ xs)
+    by none = let long = ap length none in omega (arith, long)
 
 right_none : (l r : List EntryNote) → l ++ r ≡ [] → r ≡ []
 right_none [] r is = is
@@ -114,20 +113,18 @@ gathered_seen t q cells merged G M =
     (λ pair. (cell_in q.seen t.0 pair, cell_of q.seen t.0 pair))
     (gathered_is t q.seen cells merged G (M G.pairs G.put))
 
--- a further box was read, whose rest holds these notes
-pub box_gathered : {E : Type 0} (t : Table) (seen left : List EntryNote)
-    (p : EntryNote → Bool) (new : CellBatches) (some more : Bool) (after : Hands)
-    (done : Result (Unit {0}) E)
-    → ((q : FlushRead) → after.reading ≡ Some q → seen ++ filter p left ≡ q.seen)
-    → OnOk done (IsGathered t (seen ++ filter p left) new) → AreSome some seen
-    → more ≡ (list_any p left || some)
-    → IfSome (told_some done more) (λ b. HoldsGathered t new b after)
-box_gathered t seen left p new some more after (Ok u) is G S same = λ q has. (
+-- a further box was read, which holds these notes
+pub box_gathered : {E : Type 0} (t : Table) (seen lent : List EntryNote) (new : CellBatches)
+    (some here more : Bool) (after : Hands) (done : Result (Unit {0}) E)
+    → ((q : FlushRead) → after.reading ≡ Some q → seen ++ lent ≡ q.seen)
+    → OnOk done (IsGathered t (seen ++ lent) new) → AreSome some seen → AreSome here lent
+    → more ≡ (here || some) → IfSome (told_some done more) (λ b. HoldsGathered t new b after)
+box_gathered t seen lent new some here more after (Ok u) is G S L same = λ q has. (
   subst (λ l. IsGathered t l new) (is q has) G,
-  subst (λ l. AreSome more l) (is q has) (subst (λ b. AreSome b (seen ++ filter p left)) (sym same)
-      (joined_some some (list_any p left) seen (filter p left) S (kept_some p left))),
+  subst (λ l. AreSome more l) (is q has) (subst (λ b. AreSome b (seen ++ lent)) (sym same)
+      (joined_some some here seen lent S L)),
 )
-box_gathered t seen left p new some more after (Err e) is G S same = tt
+box_gathered t seen lent new some here more after (Err e) is G S L same = tt
 
 -- no box was read yet
 pub none_gathered : (t : Table) (cells : CellBatches) (h : Hands)
@@ -146,24 +143,24 @@ all_gathered seats t m cells (Some true) h (Cells merged) A M =
     (A.0, A.1, A.3, gathered_seen t A.0 cells merged A.2 M)
 all_gathered seats t m cells (Some true) h Nothing A M = absurd M
 all_gathered seats t m cells (Some true) h OutOfMemory A M =
-    (A.0, (A.1.0, A.1.1, A.1.2, A.1.3))
+    (A.0, (A.1.0, A.1.1, A.1.2, A.1.3, A.1.5))
 all_gathered seats t m cells (Some false) h g A M = subst (λ k. HasGathered seats t m k h) (sym M)
-    (A.0, A.1.0, A.1.1, A.1.2, A.1.3, A.1.4, A.3)
+    (A.0, A.1.0, A.1.1, A.1.2, A.1.3, A.1.4, A.3, A.1.5)
 all_gathered seats t m cells None h g A M = subst (λ k. HasGathered seats t m k h) (sym M) A
 
 -- it is what is read of the memtable
 pub reads_it : (seats : ℕ) (t : Table) (m : ℕ) (g : Gathered) (h : Hands)
     → HasGathered seats t m g h → (q : FlushRead) × ReadsIt t.0 m h q
-reads_it seats t m Nothing h A = (A.0, (A.1, A.2, A.3, A.4))
-reads_it seats t m (Cells cells) h A = (A.0, (A.1.0, A.1.1, A.1.2, A.1.3))
+reads_it seats t m Nothing h A = (A.0, (A.1, A.2, A.3, A.4, A.7))
+reads_it seats t m (Cells cells) h A = (A.0, (A.1.0, A.1.1, A.1.2, A.1.3, A.1.5))
 reads_it seats t m OutOfMemory h A = A
 
 -- so it is where what is read stays
 pub gathered_same : (seats : ℕ) (t : Table) (m : ℕ) (g : Gathered) (h after : Hands)
     → after.reading ≡ h.reading → HasGathered seats t m g h → HasGathered seats t m g after
 gathered_same seats t m Nothing h after same A =
-    (A.0, same ∙ A.1, A.2, A.3, A.4, A.5, A.6)
+    (A.0, same ∙ A.1, A.2, A.3, A.4, A.5, A.6, A.7)
 gathered_same seats t m (Cells cells) h after same A =
-    (A.0, (same ∙ A.1.0, A.1.1, A.1.2, A.1.3, A.1.4), A.2, A.3)
+    (A.0, (same ∙ A.1.0, A.1.1, A.1.2, A.1.3, A.1.4, A.1.5), A.2, A.3)
 gathered_same seats t m OutOfMemory h after same A =
-    (A.0, (same ∙ A.1.0, A.1.1, A.1.2, A.1.3))
+    (A.0, (same ∙ A.1.0, A.1.1, A.1.2, A.1.3, A.1.4))

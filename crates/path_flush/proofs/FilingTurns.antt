@@ -200,7 +200,7 @@ pub awaits_still : (seats t m bound : ℕ) (cells : List (CellKey × Cell)) (v a
     → AwaitsFile seats t m bound cells after
 awaits_still seats t m bound cells v after reading table opened A = record {
   read = A.read;
-  sees = (reading ∙ A.sees.0, A.sees.1, A.sees.2, A.sees.3, A.sees.4);
+  sees = (reading ∙ A.sees.0, A.sees.1, A.sees.2, A.sees.3, A.sees.4, A.sees.5);
   some = A.some;
   are = A.are;
   final = ap (λ (st : SeatTable). st.bound) table ∙ A.final;

@@ -1,6 +1,7 @@
 -- What the steps by which a memtable is read leave of its reader.
-use Rattle.std.proofs.Common.{◌≡◌, ℕ, zero, suc, ◌+◌, Bool, true, false, if◌then◌else◌, [], Option}
+use Rattle.std.proofs.Common.{◌≡◌, ℕ, ◌+◌, Bool, true, false, if◌then◌else◌, [], Option}
 use Rattle.std.proofs.Common.{Some, None, refl, sym, ap, ◌∙◌, subst, arith}
+use Rattle.std.proofs.lemmas.Option.{none-some, same_Some}
 use Rattle.std.specs.Option.{option_map}
 use Rattle.clog_base.specs.declared.cell.Table.{Table}
 use Rattle.path_core.specs.declared.event.Event.TheVariants.{Look}
@@ -21,10 +22,10 @@ use Rattle.path_rule.specs.declared.view.FlushRead.{FlushRead}
 use Rattle.path_rule.specs.declared.view.Hands.{Hands}
 use Rattle.path_rule.specs.declared.view.View.{View}
 use Rattle.path_rule.specs.Calls.{Did, DidAs}
-use Rattle.path_rule.specs.Flushes.{place_below}
 use Rattle.path_rule.specs.HandsAfter.{with_reading}
 use Rattle.path_rule.specs.Layout.{bound_in, reading_at}
 use Rattle.path_rule.specs.Rule.{told_by}
+use Rattle.path_rule.specs.Switches.{FlushOldest}
 use Rattle.path_flush.specs.FlushReads.{ReadSteps}
 use Rattle.path_flush.proofs.FlushGoes.{next, one}
 use Rattle.path_flush.proofs.FlushTables.{holder_still, is_small}
@@ -47,6 +48,37 @@ newest_leaves s u n t told = at_table_keeps t.0 u
     (staged (λ (turn : FlushTurn). record turn { newest = Some n }) (λ turn. refl)
     (seat_table s t.0).flush)
 
+-- it leaves the least memtable that is not retired too
+abbrev pub oldest_in : SeatTable → Option (Option ℕ)
+oldest_in st = option_map (λ (turn : FlushTurn). turn.oldest_live) st.flush
+
+pub older : (f : FlushTurn → FlushTurn) → ((turn : FlushTurn) → (f turn).oldest_live
+    ≡ turn.oldest_live) → (o : Option FlushTurn)
+    → option_map (λ (turn : FlushTurn). turn.oldest_live) (option_map f o)
+    ≡ option_map (λ (turn : FlushTurn). turn.oldest_live) o
+older f same None = refl
+older f same (Some turn) = ap (λ (k : Option ℕ). Some k) (same turn)
+
+pub oldest_found : (o : Option FlushTurn) (n : ℕ)
+    → option_map (λ (turn : FlushTurn). turn.oldest_live) o ≡ Some (Some n)
+    → (turn : FlushTurn) × (o ≡ Some turn) × (turn.oldest_live ≡ Some n)
+oldest_found None n e = absurd (none-some (Some n) e)
+oldest_found (Some turn) n e = (turn, refl, same_Some turn.oldest_live (Some n) e)
+
+pub oldest_stays : (p q : Seat) (t n : ℕ) → oldest_in (seat_table q t) ≡ oldest_in (seat_table p t)
+    → FlushOldest t p n → FlushOldest t q n
+oldest_stays p q t n same F = oldest_found (seat_table q t).flush n (same
+    ∙ (ap (λ (o : Option FlushTurn). option_map (λ (turn : FlushTurn). turn.oldest_live) o) F.1
+    ∙ ap (λ (k : Option ℕ). Some k) F.2))
+
+pub newest_leaves_oldest : (s : Seat) (u n : ℕ) (t : Table) (told : Told)
+    → oldest_in (seat_table (seat_after s (Look 0 (Newest t)) (reading_at (Newest t) n) told) u)
+    ≡ oldest_in (seat_table s u)
+newest_leaves_oldest s u n t told = at_table_keeps t.0 u
+    (in_flush (λ (turn : FlushTurn). record turn { newest = Some n })) s oldest_in
+    (older (λ (turn : FlushTurn). record turn { newest = Some n }) (λ turn. refl)
+    (seat_table s t.0).flush)
+
 -- a look at the newest memtable, by which what was read changes
 abbrev pub on_read : (w t n : ℕ) (u : Table) (q : Option FlushRead) (v after : View)
     → DidAs v w (Look w (Newest u)) n (with_reading q v.hands) after → ReadSteps w t v after
@@ -62,6 +94,9 @@ on_read w t n u q v after d = let e = Look w (Newest u) in let P = is_small e tt
           (columns e v.part (reading_at (place_of e) n) told (P.fits v.part)))
           (ap (λ (x : View). x.size) d.view);
       stage = ap (λ (x : View). stage_of x.part t) d.view ∙ newest_leaves v.part t n u told;
+      oldest = λ m. oldest_stays v.part after.part t m
+          (ap (λ (x : View). oldest_in (seat_table x.part t)) d.view
+          ∙ newest_leaves_oldest v.part t n u told);
       hands = same ∙ ap (λ (r : Option FlushRead). with_reading r v.hands)
           (sym (ap (λ (h : Hands). h.reading) same));
     }
@@ -93,6 +128,17 @@ bound_leaves s u n m t told = let b = bound_in n in let st = seat_table s t.0 in
     (ap (λ (o : Option FlushTurn). option_map (λ (turn : FlushTurn). turn.stage) o)
     (tries_left (deposited_end s) m b (bound_found m b st)) ∙ staged set (λ turn. refl) st.flush)
 
+pub bound_leaves_oldest : (s : Seat) (u n m : ℕ) (t : Table) (told : Told)
+    → oldest_in (seat_table (seat_after s (Look 0 (BoundOf t m)) (reading_at (BoundOf t m) n) told)
+    u) ≡ oldest_in (seat_table s u)
+bound_leaves_oldest s u n m t told = let b = bound_in n in let st = seat_table s t.0 in
+    let set : FlushTurn → FlushTurn = λ turn. record turn {
+      bound = Some (record { memtable = m; bound = b });
+    } in at_table_keeps t.0 u
+    (λ (st : SeatTable). tries_bound (deposited_end s) m b (bound_found m b st)) s oldest_in
+    (ap (λ (o : Option FlushTurn). option_map (λ (turn : FlushTurn). turn.oldest_live) o)
+    (tries_left (deposited_end s) m b (bound_found m b st)) ∙ older set (λ turn. refl) st.flush)
+
 abbrev pub on_bound : (w t n : ℕ) (u : Table) (k : ℕ) (q : Option FlushRead) (v after : View)
     → DidAs v w (Look w (BoundOf u k)) n (with_reading q v.hands) after → ReadSteps w t v after
 on_bound w t n u k q v after d = let e = Look w (BoundOf u k) in let P = is_small e tt in
@@ -107,6 +153,9 @@ on_bound w t n u k q v after d = let e = Look w (BoundOf u k) in let P = is_smal
           (columns e v.part (reading_at (place_of e) n) told (P.fits v.part)))
           (ap (λ (x : View). x.size) d.view);
       stage = ap (λ (x : View). stage_of x.part t) d.view ∙ bound_leaves v.part t n k u told;
+      oldest = λ m. oldest_stays v.part after.part t m
+          (ap (λ (x : View). oldest_in (seat_table x.part t)) d.view
+          ∙ bound_leaves_oldest v.part t n k u told);
       hands = same ∙ ap (λ (r : Option FlushRead). with_reading r v.hands)
           (sym (ap (λ (h : Hands). h.reading) same));
     }
@@ -117,13 +166,6 @@ abbrev pub on_looked : (w t n : ℕ) (u : Table) (k : ℕ) (v after : View)
 on_looked w t n u k v after d =
     on_bound w t n u k v.hands.reading v after (record { view = d.view; was = d.was })
 
--- where the reading begins
-pub on_begin : (w t n : ℕ) (u : Table) (m : ℕ) (q : Option FlushRead) (v after : View)
-    → DidAs v w (Look w (place_below u m)) n (with_reading q v.hands) after
-    → ReadSteps w t v after
-on_begin w t n u zero q v after d = on_read w t n u q v after d
-on_begin w t n u (suc k) q v after d = on_bound w t n u k q v after d
-
 abbrev pub then_read : (w z t : ℕ) (v u after : View) → z ≡ w → ReadSteps w t v u
     → ReadSteps z t u after → ReadSteps w t v after
 then_read w z t v u after same A B = record {
@@ -133,6 +175,7 @@ then_read w z t v u after same A B = record {
   sync = B.sync ∙ A.sync;
   holder = λ H. B.holder (A.holder H);
   stage = B.stage ∙ A.stage;
+  oldest = λ m F. B.oldest m (A.oldest m F);
   hands = B.hands ∙ ap (λ (h : Hands). with_reading after.hands.reading h) A.hands;
 }
 
@@ -151,5 +194,6 @@ none_read_yet w t v = record {
   sync = refl;
   holder = λ H. H;
   stage = refl;
+  oldest = λ m F. F;
   hands = refl;
 }

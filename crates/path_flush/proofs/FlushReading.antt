@@ -9,7 +9,7 @@ use Rattle.std.proofs.Common.{
   ◌++◌,
   length,
   nat_eq,
-  nat_lt,
+  cond,
   Bool,
   true,
   Option,
@@ -23,7 +23,6 @@ use Rattle.std.proofs.Common.{
 use Rattle.std.proofs.lemmas.Bool.{eqb-true}
 use Rattle.std.proofs.lemmas.List.{append-nil, nil_from_length}
 use Rattle.std.proofs.lemmas.Option.{same_Some}
-use Rattle.std.specs.List.{filter}
 use Rattle.atomic_table.specs.Table.{Me, rest}
 use Rattle.clog_base.specs.declared.cell.Table.{Table}
 use Rattle.path_core.specs.declared.event.Event.TheVariants.{Look}
@@ -37,30 +36,28 @@ use Rattle.path_rule.specs.declared.view.View.{View}
 use Rattle.path_rule.specs.Boxes.{memtable_box}
 use Rattle.path_rule.specs.Calls.{DidAs}
 use Rattle.path_rule.specs.Flushes.{next_box, TookRead}
-use Rattle.path_rule.specs.HandsAfter.{box_read, box_seen, with_reading}
+use Rattle.path_rule.specs.HandsAfter.{box_read, box_seen, left_in, with_reading}
 use Rattle.path_rule.specs.Told.{CarriesNotes}
-use Rattle.path_rule.specs.Trimmed.{ends_above, IsTrimmed}
 use Rattle.path_flush.specs.FlushReads.{HasRead, ReadSteps}
 use Rattle.path_flush.proofs.FlushReadSteps.{on_read, then_read}
-use Rattle.path_flush.proofs.FlushTrims.{trimmed_same}
 
 -- the number of the box of the next seat
-pub the_box : {size now : PathSize} {t m above seat b : ℕ} {h : Hands}
-    → (H : HasRead t m above seat h) → size ≡ now → b ≡ memtable_box size.seats seat t m
+pub the_box : {size now : PathSize} {t m seat b : ℕ} {kind : Bool} {h : Hands}
+    → (H : HasRead t m kind seat h) → size ≡ now → b ≡ memtable_box size.seats seat t m
     → next_box now.seats H.read ≡ b
 the_box H same is =
     (λ i. memtable_box (sym same i).seats (H.seen_to i) (H.of_table i) (H.of_memtable i)) ∙ sym is
 
 -- The box of the next seat was taken and given back, by steps of seat w: behind them q is read.
-pub record SeesBox (w t m above seat : ℕ) (table : Table) (q : FlushRead) (v after : View)
-    : Type 0 where
+pub record SeesBox (w t m : ℕ) (kind : Bool) (seat : ℕ) (table : Table) (q : FlushRead)
+    (v after : View) : Type 0 where
   pub steps : ReadSteps w table.0 v after
   pub size : after.size ≡ v.size
   pub is : after.hands.reading ≡ Some q
-  pub reads : HasRead t m above (suc seat) after.hands
+  pub reads : HasRead t m kind (suc seat) after.hands
 
-module _ {K : Type 0} {t m above seat : ℕ} {h : Hands} (seats : ℕ)
-    (H : HasRead t m above seat h) where
+module _ {K : Type 0} {t m seat : ℕ} {kind : Bool} {h : Hands} (seats : ℕ)
+    (H : HasRead t m kind seat h) where
   -- the box of the next seat was taken
   abbrev TakesNext : Table → ℕ → ℕ → Me (Slot K) View → Me (Slot K) View → Type 0
   TakesNext table w n member taken = (held : List EntryNote)
@@ -79,31 +76,21 @@ module _ {K : Type 0} {t m above seat : ℕ} {h : Hands} (seats : ℕ)
     T.2,
   )
 
-  -- what was lent of it and trimmed is trimmed of what it held
-  pub is_trimmed : {w n b : ℕ} {table : Table} {lent left : List EntryNote}
-      → (member taken : Me (Slot K) View) → (D : TakesNext table w n member taken)
-      → next_box seats H.read ≡ b
-      → ((held : List EntryNote) → CarriesNotes b held taken → lent ≡ held)
-      → IsTrimmed above lent left → IsTrimmed above D.0 left
-  is_trimmed {left = left} member taken D same lent T =
-      subst (λ (l : List EntryNote). IsTrimmed above l left)
-      (lent D.0 (is_carried member taken D same)) T
-
-  -- so it may be given back
+  -- so it may be given back, as it was or empty
   pub may_give : {w n b : ℕ} {table : Table} {left : List EntryNote}
       → (member taken back : Me (Slot K) View) → (D : TakesNext table w n member taken)
-      → back.0 ≡ taken.0 → next_box seats H.read ≡ b → IsTrimmed above D.0 left
+      → back.0 ≡ taken.0 → next_box seats H.read ≡ b → cond kind [] D.0 ≡ left
       → CarriesNotes b left back
-      → (q : FlushRead) × (b : ℕ) × (left : List EntryNote) × (back.0.hands.reading ≡ Some q)
-      × (q.taken ≡ Some b) × IsTrimmed q.above q.held left × CarriesNotes b left back
-  may_give {left = left} member taken back D same box T carries = (
+      → (q : FlushRead) × (b : ℕ) × (back.0.hands.reading ≡ Some q) × (q.taken ≡ Some b)
+      × CarriesNotes b (left_in q) back
+  may_give {left = left} member taken back D same box is carries = (
     box_read (next_box seats H.read) D.0 H.read,
     next_box seats H.read,
-    left,
     ap (λ (u : View). u.hands.reading) (same ∙ D.1.view),
     refl,
-    subst (λ (k : ℕ). IsTrimmed k D.0 left) (sym H.from) T,
-    subst (λ (b : ℕ). CarriesNotes b left back) (sym box) carries,
+    subst (λ (l : List EntryNote). CarriesNotes (next_box seats H.read) l back)
+        (sym (ap (λ (r : Bool). cond r [] D.0) H.kind ∙ is))
+        (subst (λ (b : ℕ). CarriesNotes b left back) (sym box) carries),
   )
 
   -- what is read once it is given back
@@ -112,7 +99,7 @@ module _ {K : Type 0} {t m above seat : ℕ} {h : Hands} (seats : ℕ)
       → back ≡ taken.0 → z ≡ w
       → ((q : FlushRead) → back.hands.reading ≡ Some q → DidAs back z (Look z (Newest table)) k
       (with_reading (Some (box_seen q)) back.hands) after)
-      → SeesBox w t m above seat table (box_seen (box_read (next_box seats H.read) D.0 H.read))
+      → SeesBox w t m kind seat table (box_seen (box_read (next_box seats H.read) D.0 H.read))
       member.0 after
   sees_box {w} {z} {n} {k} {table} {back} {after} member taken D same by give =
       let q = box_read (next_box seats H.read) D.0 H.read in
@@ -129,37 +116,30 @@ module _ {K : Type 0} {t m above seat : ℕ} {h : Hands} (seats : ℕ)
           reads = is;
           of_table = H.of_table;
           of_memtable = H.of_memtable;
-          from = H.from;
+          kind = H.kind;
           none_taken = refl;
           seen_to = ap (λ (k : ℕ). suc k) H.seen_to;
         };
       }
 
--- what was seen then is what was, and what is left of the box above the key
-pub seen_is : {t m above seat : ℕ} {held left : List EntryNote} {h : Hands}
-    {r : Option FlushRead}
-    → (H : HasRead t m above seat h)
-    → r ≡ Some (box_seen (box_read 0 held H.read)) → IsTrimmed above held left
-    → (q : FlushRead) → r ≡ Some q
-    → H.read.seen ++ filter (λ (n : EntryNote). nat_lt above n.end.0) left ≡ q.seen
-seen_is {above = above} {held = held} {left = left} H is T q has =
-    ap (λ l. H.read.seen ++ l) (sym (trimmed_same above held left T))
-    ∙ (ap (λ (k : ℕ). H.read.seen ++ filter (ends_above k) held) (sym H.from)
+-- what was seen then is what was, and what lay in the box
+pub seen_is : {t m seat : ℕ} {kind : Bool} {held lent : List EntryNote} {h : Hands}
+    {r : Option FlushRead} → (H : HasRead t m kind seat h)
+    → r ≡ Some (box_seen (box_read 0 held H.read)) → lent ≡ held → (q : FlushRead) → r ≡ Some q
+    → H.read.seen ++ lent ≡ q.seen
+seen_is {held = held} H is same q has = ap (λ l. H.read.seen ++ l) same
     ∙ ap (λ (r : FlushRead). r.seen)
-    (same_Some (box_seen (box_read 0 held H.read)) q (sym is ∙ has)))
+    (same_Some (box_seen (box_read 0 held H.read)) q (sym is ∙ has))
 
 -- a list of length 0
 pub none_left : (l : List EntryNote) (b : Bool) → b ≡ nat_eq (length l) 0 → b ≡ true → l ≡ []
 none_left l b is empty = nil_from_length l (eqb-true (length l) 0 (sym is ∙ empty))
 
--- where nothing is left, no more was seen
-pub seen_no_more : {t m above seat : ℕ} {held left : List EntryNote} {h : Hands}
-    {r : Option FlushRead}
-    → (H : HasRead t m above seat h)
-    → r ≡ Some (box_seen (box_read 0 held H.read)) → IsTrimmed above held left
-    → left ≡ [] → (p q : FlushRead) → h.reading ≡ Some p → r ≡ Some q
-    → q.seen ≡ p.seen
-seen_no_more {above = above} H is T void p q was has = sym (seen_is H is T q has)
-    ∙ (ap (λ l. H.read.seen ++ filter (λ (n : EntryNote). nat_lt above n.end.0) l) void
-    ∙ (append-nil H.read.seen
+-- where nothing lay there, no more was seen
+pub seen_no_more : {t m seat : ℕ} {kind : Bool} {held lent : List EntryNote} {h : Hands}
+    {r : Option FlushRead} → (H : HasRead t m kind seat h)
+    → r ≡ Some (box_seen (box_read 0 held H.read)) → lent ≡ held → lent ≡ []
+    → (p q : FlushRead) → h.reading ≡ Some p → r ≡ Some q → q.seen ≡ p.seen
+seen_no_more H is same void p q was has = sym (seen_is H is same q has)
+    ∙ (ap (λ l. H.read.seen ++ l) void ∙ (append-nil H.read.seen
     ∙ ap (λ (r : FlushRead). r.seen) (same_Some H.read p (sym H.reads ∙ was))))

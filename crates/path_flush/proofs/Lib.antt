@@ -3,7 +3,6 @@ pub mod FlushHeld
 pub mod FlushGoes
 pub mod FlushTables
 pub mod FlushReadSteps
-pub mod FlushTrims
 pub mod FlushWaits
 pub mod FlushSwitching
 pub mod FlushTaking

@@ -44,9 +44,10 @@ abbrev pub HoldsGathered : Table → CellBatches → Bool → Hands → Type 0
 HoldsGathered table cells some h = (q : FlushRead) → h.reading ≡ Some q
     → IsGathered table q.seen cells × AreSome some q.seen
 
--- It reads memtable m of a table, and has no box in hand.
+-- It reads memtable m of a table, which is not retired, and has no box in hand.
 abbrev pub ReadsIt : ℕ → ℕ → Hands → FlushRead → Type 0
 ReadsIt t m h q = (h.reading ≡ Some q) × (q.table ≡ t) × (q.memtable ≡ m) × (q.taken ≡ None)
+    × (q.retired ≡ false)
 
 -- The boxes of all seats of a memtable were seen: these are the cells in them, and something lay
 -- there or not. Or memory was refused, and no box is in hand.

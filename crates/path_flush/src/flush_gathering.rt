@@ -1,19 +1,18 @@
 //! What was written to a memtable is gathered behind its barrier, from the boxes of all seats, and
 //! merged into the cells of a table file. For that its table's Flush turn is enough.
-ghost use Rattle.std.specs.List.{list_any};
-ghost use Rattle.std.specs.Prelude.{◌^◌, ◌≡◌, suc, ◌<◌, ◌||◌, [], Some, true, nat_lt, IfSome};
+ghost use Rattle.std.specs.Prelude.{◌^◌, ◌≡◌, suc, ◌<◌, ◌||◌, [], Some, true, false, IfSome};
 ghost use Rattle.clog_cells.specs.Batches.{WerePut};
 ghost use Rattle.path_core.specs.declared.note.EntryNote.{EntryNote};
 ghost use Rattle.path_rule.specs.declared.view.FlushRead.{FlushRead};
 ghost use Rattle.path_table.specs.Members.{view_of, hands_of, boxes_of, IsOf};
-ghost use Rattle.path_flush.specs.FlushGathers.{HasGathered, HasGatheredAll, HoldsGathered};
-ghost use Rattle.path_flush.specs.FlushGathers.{IsMadeOf, told_some};
+ghost use Rattle.path_flush.specs.FlushGathers.{AreSome, HasGathered, HasGatheredAll};
+ghost use Rattle.path_flush.specs.FlushGathers.{HoldsGathered, IsMadeOf, told_some};
 ghost use Rattle.path_flush.specs.FlushReads.{HasRead, ReadSteps};
 ghost use Rattle.path_flush.specs.FlushTurns.{HasTable};
 ghost use Rattle.path_flush.specs.Seats.{Stays};
 
-use crate::flush_reading::{box_number, trim};
-use clog_base::{Key, OutOfMemory, Table};
+use crate::flush_reading::box_number;
+use clog_base::{OutOfMemory, Table};
 use clog_cells::{CellBatches, CellMap};
 use clog_memtable::gather;
 use path_core::{EntryNote, Keeper};
@@ -32,11 +31,11 @@ pub enum Gathered {
     OutOfMemory,
 }
 
-// Whether one of these ends above a key.
-fn ends_above(notes: &LinkedList<EntryNote>, above: Key) -> bool
-    ensures { result ≡ list_any (λ (n : EntryNote). nat_lt above.0 n.end.0) notes.now }
+// Whether there are some.
+fn are_some(notes: &LinkedList<EntryNote>) -> bool
+    ensures { AreSome result notes.now }
 {
-    notes.iter().any(|note| note.end.0 > above.0)
+    !notes.is_empty()
 }
 
 // Whether something was found so far: in this box, or before.
@@ -86,7 +85,6 @@ fn gather_box<K: Keeper, A: Allocator>(
     member: Member<K>,
     table: Table,
     memtable: u64,
-    above: Key,
     seat: u64,
     cells: &mut CellBatches,
     some: bool,
@@ -94,22 +92,21 @@ fn gather_box<K: Keeper, A: Allocator>(
     requires table { IsOf path.now.table.shared.table_id path.now.size member }
     requires there { (table.0 < path.now.size.tables) × (memtable < 2 ^ 47)
         × (seat < path.now.size.seats) }
-    requires reads { HasRead table.0 memtable above.0 seat (hands_of member) }
+    requires reads { HasRead table.0 memtable false seat (hands_of member) }
     requires gathered { HoldsGathered table cells.old some (hands_of member) }
     ensures same { Stays path.now.table.shared.table_id path.now.size member
         result.0 × (boxes_of result.0 ≡ boxes_of member) }
     ensures steps { ReadSteps member.number table.0 (view_of member) (view_of result.0) }
-    ensures reads { HasRead table.0 memtable above.0 (suc seat) (hands_of result.0) }
+    ensures reads { HasRead table.0 memtable false (suc seat) (hands_of result.0) }
     ensures gathered { IfSome result.1 (λ some. HoldsGathered table cells.new
         some (hands_of result.0)) }
 {
     let mut member = member;
     path.take_read(&mut member, table);
     let number = box_number(path.size().seats, seat, table, memtable);
-    let (member, mut notes) = path.lend_read(alloc, member, number);
-    trim(&mut notes, above);
-    let done = gather(alloc, cells, table, above, &notes);
-    let some = found_some(ends_above(&notes, above), some);
+    let (member, notes) = path.lend_read(alloc, member, number);
+    let done = gather(alloc, cells, table, &notes);
+    let some = found_some(are_some(&notes), some);
     let mut member = path.return_read(member, number, notes);
     path.give_read(&mut member, table);
     (member, told_some(done, some))
@@ -122,12 +119,11 @@ fn gather_boxes<K: Keeper, A: Allocator>(
     member: Member<K>,
     table: Table,
     memtable: u64,
-    above: Key,
     cells: &mut CellBatches,
 ) -> (Member<K>, Option<bool>)
     requires table { IsOf path.now.table.shared.table_id path.now.size member }
     requires there { (table.0 < path.now.size.tables) × (memtable < 2 ^ 47) }
-    requires reads { HasRead table.0 memtable above.0 0 (hands_of member) }
+    requires reads { HasRead table.0 memtable false 0 (hands_of member) }
     requires void { ((q : FlushRead) → (hands_of member).reading ≡ Some q → q.seen ≡ [])
         × WerePut [] cells.old }
     ensures same { Stays path.now.table.shared.table_id path.now.size member
@@ -139,9 +135,7 @@ fn gather_boxes<K: Keeper, A: Allocator>(
     let mut member = member;
     let mut some = false;
     for seat in 0..path.size().seats {
-        let (next, more) = gather_box(
-            path, alloc, member, table, memtable, above, seat, cells, some,
-        );
+        let (next, more) = gather_box(path, alloc, member, table, memtable, seat, cells, some);
         member = next;
         match more {
             Some(more) => some = more,
@@ -159,12 +153,11 @@ pub(crate) fn gather_apart<K: Keeper, A: Allocator>(
     member: Member<K>,
     table: Table,
     memtable: u64,
-    above: Key,
 ) -> (Member<K>, Gathered)
     requires table { IsOf path.now.table.shared.table_id path.now.size member }
     requires there { (table.0 < path.now.size.tables) × (memtable < 2 ^ 47) }
     requires holds { HasTable table.0 member.seat.me }
-    requires reads { HasRead table.0 memtable above.0 0 (hands_of member) }
+    requires reads { HasRead table.0 memtable false 0 (hands_of member) }
     requires void { (q : FlushRead) → (hands_of member).reading ≡ Some q → q.seen ≡ [] }
     ensures same { Stays path.now.table.shared.table_id path.now.size member
         result.0 }
@@ -174,6 +167,6 @@ pub(crate) fn gather_apart<K: Keeper, A: Allocator>(
         (hands_of result.0) }
 {
     let mut cells = CellBatches::new(alloc);
-    let (member, some) = gather_boxes(path, alloc, member, table, memtable, above, &mut cells);
+    let (member, some) = gather_boxes(path, alloc, member, table, memtable, &mut cells);
     (member, gathered_of(some, cells))
 }

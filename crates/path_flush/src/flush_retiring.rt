@@ -64,8 +64,8 @@ fn read_whole<K: Keeper, A: Allocator, R: Wait>(
     ensures gathered { HasGathered path.now.size.seats table memtable result.1
         (hands_of result.0) }
 {
-    let (member, above) = start_read(path, member, table, memtable);
-    let (member, read) = gather_apart(path, alloc, member, table, memtable, above);
+    let member = start_read(path, alloc, member, table, memtable);
+    let (member, read) = gather_apart(path, alloc, member, table, memtable);
     (take_sync_beside(path, rt, member, table), read)
 }
 

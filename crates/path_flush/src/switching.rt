@@ -69,8 +69,8 @@ fn settle<K: Keeper, A: Allocator, R: Wait>(
     ensures settled { IsSettled member.number table.0 memtable bound.0 (view_of member)
         result.1 (view_of result.0.member) }
 {
-    let (member, above) = start_read(path, member, table, memtable);
-    let (member, empty) = read_boxes(path, alloc, member, table, memtable, above);
+    let member = start_read(path, alloc, member, table, memtable);
+    let (member, empty) = read_boxes(path, alloc, member, table, memtable);
     if empty {
         (
             leave_empty(path, rt, member, table, memtable, group),

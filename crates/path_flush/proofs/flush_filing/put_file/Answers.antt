@@ -140,6 +140,7 @@ returns-in-Err-clause-unread g c = let L = c.last_upper-member in let P = c.put_
       A.sees.2,
       A.sees.3,
       A.sees.4,
+      A.sees.5,
     )
 
 pub returns-in-Err-clause-retired : goal.returns-in-Err-clause-retired

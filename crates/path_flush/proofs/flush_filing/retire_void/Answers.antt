@@ -55,6 +55,7 @@ returns-clause-retired g c = let m = c.args.member in let S = c.requires.sees in
               S.3,
               S.4,
               S.5 ∙ sym (ap (λ z. z.seats) c.requires.table.1),
+              S.7,
             );
             was = W.0;
             put = record {

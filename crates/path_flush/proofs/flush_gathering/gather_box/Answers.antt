@@ -1,9 +1,9 @@
+use Rattle.std.specs.List.{Contains}
 use Rattle.std.specs.Prelude.{IfSome}
 use Rattle.std.proofs.Common.{
   ◌<◌,
   ◌≤◌,
-  ◌||◌,
-  nat_lt,
+  List,
   Option,
   Bool,
   sym,
@@ -15,12 +15,10 @@ use Rattle.std.proofs.Common.{
 use Rattle.atomic_table.specs.Table.{rest}
 use Rattle.path_core.specs.declared.note.EntryNote.{EntryNote}
 use Rattle.path_rule.specs.declared.view.PathSize.{PathSize}
-use Rattle.path_flush.proofs.FlushTrims.{left_held}
 use Rattle.path_flush.proofs.FilingGathers.{box_gathered}
 use Rattle.path_flush.specs.FlushGathers.{HoldsGathered}
 use Rattle.path_flush.proofs.FlushReading.{
   is_carried,
-  is_trimmed,
   may_give,
   seen_is,
   sees_box,
@@ -55,7 +53,7 @@ give_read-requires-clause-reads g c = let H = c.requires.reads in
     let seats = c.args.path.now.size.seats in let m = c.args.member.seat.me in
     let box = the_box H c.size.ensures c.box_number-number.ensures in
     may_give seats H m taken R.result.seat.me D (R.ensures.same.1 ∙ L.same.1) box
-    (is_trimmed seats H m taken D box L.notes c.trim.ensures) R.ensures.notes
+    (sym (L.notes D.0 (is_carried seats H m taken D box))) R.ensures.notes
 
 pub returns-clause-same : goal.returns-clause-same
 returns-clause-same g c = let H = c.requires.reads in let T = c.take_read.ensures in
@@ -91,11 +89,10 @@ returns-clause-reads g c = let H = c.requires.reads in let T = c.take_read.ensur
 pub gather-done-requires : goal.gather-done-requires
 gather-done-requires g c = let H = c.requires.reads in
     let D = c.take_read.ensures.step H.read H.reads in
-    λ n in_left. D.2.3 n (left_held c.args.above.0 D.0 c.trim.new.notes
-    (is_trimmed c.args.path.now.size.seats H c.args.member.seat.me
-    c.take_read.new.member.seat.me D
-    (the_box H c.size.ensures c.box_number-number.ensures) c.lend_read-member.ensures.notes
-    c.trim.ensures) n in_left)
+    λ n lies. D.2.3 n (subst (λ (l : List EntryNote). Contains l n)
+    (c.lend_read-member.ensures.notes D.0 (is_carried c.args.path.now.size.seats H
+    c.args.member.seat.me c.take_read.new.member.seat.me D
+    (the_box H c.size.ensures c.box_number-number.ensures))) lies)
 
 pub returns-clause-gathered : goal.returns-clause-gathered
 returns-clause-gathered g c = let H = c.requires.reads in let T = c.take_read.ensures in
@@ -104,15 +101,14 @@ returns-clause-gathered g c = let H = c.requires.reads in let T = c.take_read.en
     let taken = c.take_read.new.member.seat.me in let seats = c.args.path.now.size.seats in
     let S = sees_box seats H m taken D (R.1 ∙ L.same.1) (R.0.1 ∙ (L.same.0.1 ∙ T.same.1))
     c.give_read.ensures.step in
-    let trimmed = is_trimmed seats H m taken D
-    (the_box H c.size.ensures c.box_number-number.ensures) L.notes c.trim.ensures in
+    let lent = L.notes D.0 (is_carried seats H m taken D
+    (the_box H c.size.ensures c.box_number-number.ensures)) in
     let after = c.give_read.new.member.seat.me.0.hands in
     let G = c.requires.gathered H.read H.reads in
     subst (λ (o : Option Bool). IfSome o
     (λ k. HoldsGathered c.args.table c.gather-done.new.cells k after))
     (sym c.told_some.ensures)
-    (box_gathered c.args.table H.read.seen c.trim.new.notes
-    (λ (n : EntryNote). nat_lt c.args.above.0 n.end.0)
-    c.gather-done.new.cells c.args.some c.found_some-some.result after c.gather-done.result
-    (λ q has. seen_is H S.is trimmed q has) (c.gather-done.ensures H.read.seen G.0) G.1
-    (c.found_some-some.ensures ∙ ap (λ k. k || c.args.some) c.ends_above.ensures))
+    (box_gathered c.args.table H.read.seen c.lend_read-member.result.1 c.gather-done.new.cells
+    c.args.some c.are_some.result c.found_some-some.result after c.gather-done.result
+    (λ q has. seen_is H S.is lent q has) (c.gather-done.ensures H.read.seen G.0) G.1
+    c.are_some.ensures c.found_some-some.ensures)

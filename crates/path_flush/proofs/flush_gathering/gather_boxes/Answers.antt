@@ -1,5 +1,5 @@
 use Rattle.std.specs.Prelude.{IfSome}
-use Rattle.std.proofs.Common.{◌≡◌, ◌+◌, ℕ, suc, Bool, Option, refl, ◌∙◌, subst, arith}
+use Rattle.std.proofs.Common.{◌≡◌, ◌+◌, ℕ, suc, Bool, false, Option, refl, ◌∙◌, subst, arith}
 use Rattle.path_flush.specs.FlushGathers.{HoldsGathered}
 use Rattle.path_flush.specs.FlushReads.{HasRead}
 use Rattle.path_flush.proofs.FilingGathers.{none_gathered}
@@ -23,7 +23,7 @@ returns-in-None-clause-steps g c = let I = c.loop-seat.invariant in
 
 pub returns-in-None-clause-all : goal.returns-in-None-clause-all
 returns-in-None-clause-all g c = let R = c.gather_box-next.ensures.reads in
-    (R.read, (R.reads, R.of_table, R.of_memtable, R.none_taken))
+    (R.read, (R.reads, R.of_table, R.of_memtable, R.none_taken, R.kind))
 
 pub loop-seat-preserved : goal.loop-seat-preserved
 loop-seat-preserved g c = let I = c.loop-seat.invariant in let G = c.gather_box-next in
@@ -33,7 +33,7 @@ loop-seat-preserved g c = let I = c.loop-seat.invariant in let G = c.gather_box-
       boxes = B.same.1 ∙ I.boxes;
       steps = then_read c.args.member.number c.loop-seat.member.number c.args.table.0 _ _ _
           I.stays.1 I.steps B.steps;
-      reads = subst (λ (k : ℕ). HasRead c.args.table.0 c.args.memtable c.args.above.0 k after) up
+      reads = subst (λ (k : ℕ). HasRead c.args.table.0 c.args.memtable false k after) up
           B.reads;
       gathered = subst (λ (o : Option Bool). IfSome o (λ k.
           HoldsGathered c.args.table G.new.cells k after)) c.in-Some.is B.gathered;

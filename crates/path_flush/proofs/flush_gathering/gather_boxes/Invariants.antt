@@ -1,4 +1,4 @@
-use Rattle.std.proofs.Common.{◌≡◌}
+use Rattle.std.proofs.Common.{◌≡◌, false}
 use Rattle.path_flush.specs.FlushGathers.{HoldsGathered}
 use Rattle.path_flush.specs.FlushReads.{HasRead, ReadSteps}
 use Rattle.path_flush.specs.Seats.{Stays}
@@ -9,6 +9,6 @@ invariant-loop-seat g l = let first = l.fn.member in record {
   stays : Stays l.path.table.shared.table_id l.path.size first l.member;
   boxes : l.member.seat.me.1 ≡ first.seat.me.1;
   steps : ReadSteps first.number l.fn.table.0 first.seat.me.0 l.member.seat.me.0;
-  reads : HasRead l.fn.table.0 l.fn.memtable l.fn.above.0 l.seat l.member.seat.me.0.hands;
+  reads : HasRead l.fn.table.0 l.fn.memtable false l.seat l.member.seat.me.0.hands;
   gathered : HoldsGathered l.fn.table l.cells l.some l.member.seat.me.0.hands;
 }

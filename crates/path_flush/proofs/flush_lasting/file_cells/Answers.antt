@@ -53,4 +53,5 @@ returns-in-Some-clause-unread g c = let L = c.await_lasting-member in
       A.sees.2,
       A.sees.3,
       A.sees.4,
+      A.sees.5,
     )

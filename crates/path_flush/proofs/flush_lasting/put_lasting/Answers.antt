@@ -66,6 +66,7 @@ returns-then-now-gt0-clause-unread g c = let L = c.look_stopped-now in let d = L
       A.sees.2,
       A.sees.3,
       A.sees.4,
+      A.sees.5,
     )
 
 pub look_filed-synced-requires-clause-table : goal.look_filed-synced-requires-clause-table
@@ -90,6 +91,7 @@ look_filed-synced-requires-clause-sees g c = let d = c.look_stopped-now.ensures.
         A.sees.2,
         A.sees.3,
         A.sees.4,
+        A.sees.5,
       ),
       A.some,
     )

@@ -3,7 +3,6 @@ use Rattle.atomic_table.specs.Table.{rest}
 use Rattle.path_rule.specs.declared.view.PathSize.{PathSize}
 use Rattle.path_flush.proofs.FlushReading.{
   is_carried,
-  is_trimmed,
   may_give,
   none_left,
   seen_no_more,
@@ -39,7 +38,7 @@ give_read-requires-clause-reads g c = let H = c.requires.reads in
     let seats = c.args.path.now.size.seats in let m = c.args.member.seat.me in
     let box = the_box H c.size.ensures c.box_number-number.ensures in
     may_give seats H m taken R.result.seat.me D (R.ensures.same.1 ∙ L.same.1) box
-    (is_trimmed seats H m taken D box L.notes c.trim.ensures) R.ensures.notes
+    (sym (L.notes D.0 (is_carried seats H m taken D box))) R.ensures.notes
 
 pub returns-clause-same : goal.returns-clause-same
 returns-clause-same g c = let H = c.requires.reads in let T = c.take_read.ensures in
@@ -79,7 +78,8 @@ returns-clause-void g c = let H = c.requires.reads in let T = c.take_read.ensure
     let taken = c.take_read.new.member.seat.me in let seats = c.args.path.now.size.seats in
     let S = sees_box seats H m taken D (R.1 ∙ L.same.1) (R.0.1 ∙ (L.same.0.1 ∙ T.same.1))
     c.give_read.ensures.step in
-    let trimmed = is_trimmed seats H m taken D
-    (the_box H c.size.ensures c.box_number-number.ensures) L.notes c.trim.ensures in
-    λ p q was has empty. seen_no_more H S.is trimmed
-    (none_left c.trim.new.notes c.is_empty-empty.result c.is_empty-empty.ensures empty) p q was has
+    let lent = L.notes D.0 (is_carried seats H m taken D
+    (the_box H c.size.ensures c.box_number-number.ensures)) in
+    λ p q was has empty. seen_no_more H S.is lent
+    (none_left c.lend_read-member.result.1 c.is_empty-empty.result c.is_empty-empty.ensures empty) p
+    q was has

@@ -1,4 +1,4 @@
-use Rattle.std.proofs.Common.{◌≡◌, ◌+◌, ℕ, suc, refl, ◌∙◌, subst, arith}
+use Rattle.std.proofs.Common.{◌≡◌, ◌+◌, ℕ, suc, false, refl, ◌∙◌, subst, arith}
 use Rattle.path_flush.specs.FlushReads.{HasRead}
 use Rattle.path_flush.proofs.FlushReadSteps.{none_read_yet, then_read}
 use Rattle.path_flush.proofs.flush_reading.read_boxes.Goals as goal
@@ -24,7 +24,7 @@ loop-seat-preserved g c = let I = c.loop-seat.invariant in let B = c.read_box-ne
       boxes = B.same.1 ∙ I.boxes;
       steps = then_read c.args.member.number c.loop-seat.member.number c.args.table.0 _ _ _
           I.stays.1 I.steps B.steps;
-      reads = subst (λ (k : ℕ). HasRead c.args.table.0 c.args.memtable c.args.above.0 k
+      reads = subst (λ (k : ℕ). HasRead c.args.table.0 c.args.memtable false k
           c.read_box-next.result.0.seat.me.0.hands) up B.reads;
       void = λ q has. let p = I.reads in
           B.void p.read q p.reads has c.if-not-empty.false

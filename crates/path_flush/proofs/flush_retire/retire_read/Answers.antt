@@ -48,7 +48,7 @@ returns-clause-retires g c = let m = c.args.member in let S = c.requires.sees in
         before = m.seat.me.0;
         since = record { newer = []; is = refl };
         read = S.0;
-        sees = (S.1, S.2, S.3, S.4, S.5 ∙ sym (ap (λ z. z.seats) c.requires.table.1));
+        sees = (S.1, S.2, S.3, S.4, S.5 ∙ sym (ap (λ z. z.seats) c.requires.table.1), S.7);
         was = W.0;
         put = record {
           newer = [];

@@ -6,11 +6,8 @@ use Rattle.path_flush.proofs.SwitchGoes.{quiet_round}
 use Rattle.path_flush.proofs.flush_retiring.read_whole.Goals as goal
 
 pub start_read-member-requires-clause-there : goal.start_read-member-requires-clause-there
-start_read-member-requires-clause-there g c = (
-  subst (λ (z : PathSize). c.args.table.0 < z.tables) c.requires.table.1
-      c.requires.holds.holder.there,
-  c.requires.there,
-)
+start_read-member-requires-clause-there g c = subst (λ (z : PathSize). c.args.table.0 < z.tables)
+    c.requires.table.1 c.requires.holds.holder.there
 
 pub gather_apart-member-requires-clause-holds : goal.gather_apart-member-requires-clause-holds
 gather_apart-member-requires-clause-holds g c = let S = c.start_read-member.ensures in
@@ -35,9 +32,9 @@ returns-clause-same g c = let S = c.start_read-member.ensures in
 pub returns-clause-steps : goal.returns-clause-steps
 returns-clause-steps g c = let S = c.start_read-member in
     let R = c.gather_apart-member in let T = c.take_sync_beside in let t = c.args.table.0 in
-    let w = c.args.member.number in let z = S.result.0.number in
+    let w = c.args.member.number in let z = S.result.number in
     let r = R.result.0.number in let v = c.args.member.seat.me.0 in
-    let s = S.result.0.seat.me.0 in
+    let s = S.result.seat.me.0 in
     let x = R.result.0.seat.me.0 in let after = T.result.seat.me.0 in
     let first = S.ensures.same.0.1 in
     then_filing w r t v x after (R.ensures.same.1 ∙ first)

@@ -29,7 +29,7 @@ look_read_bound-bound-requires-clause-there g c = (
 pub look_read_bound-bound-requires-clause-reads : goal.look_read_bound-bound-requires-clause-reads
 look_read_bound-bound-requires-clause-reads g c = let R = c.read_whole-member in
     let q = reads_it c.args.path.now.size.seats c.args.table c.args.memtable R.result.1
-    R.result.0.seat.me.0.hands R.ensures.gathered in (q.0, q.1.0, q.1.1, q.1.2)
+    R.result.0.seat.me.0.hands R.ensures.gathered in (q.0, q.1.0, q.1.1, q.1.2, q.1.4)
 
 pub retire_void-requires-clause-table : goal.retire_void-requires-clause-table
 retire_void-requires-clause-table g c = let R = c.read_whole-member.ensures in
@@ -105,6 +105,7 @@ file_memtable-requires-clause-awaits g c = let R = c.read_whole-member in
         G.1.2,
         G.1.3,
         G.1.4,
+        G.1.5,
       );
       some = G.2;
       are = G.3;
