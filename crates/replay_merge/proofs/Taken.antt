@@ -9,7 +9,9 @@ use Rattle.clog_base.specs.declared.cell.Cell.{Cell}
 use Rattle.clog_base.specs.declared.cell.CellKey.{CellKey}
 use Rattle.clog_cells.specs.Merge.{IsMerge}
 use Rattle.clog_cells.proofs.Merging.{continues}
+use Rattle.clog_mutation.specs.declared.lent.LentUpdate.{LentUpdate}
 use Rattle.clog_mutation.specs.declared.mutation.Update.{Update}
+use Rattle.clog_mutation.specs.Lent.{update_lent}
 use Rattle.clog_scan.specs.declared.answer.Found.{Found}
 use Rattle.clog_base.specs.declared.position.Position.{Position}
 use Rattle.clog_crash.specs.Counts.{LoggedMutation}
@@ -97,6 +99,20 @@ module _ (tables : List TableHeld) where
       (sym (map-append (keyed at key) front (last ∷ [])))
       (takes_both (map (keyed at key) front) (keyed at key last ∷ []) old mid new so_far
       (takes_one (keyed at key last) mid new step))
+
+  -- one more of those that are lent
+  pub lent_more : (at : Position) (key : List ℕ) (updates : List LentUpdate) (i : ℕ)
+      (none : LentUpdate) (old mid new : Merged) → i < length updates
+      → Takes tables (map (keyed at key) (map update_lent (take i updates))) old mid
+      → TakesOne tables (keyed at key (update_lent (get_or updates i none))) mid new
+      → Takes tables (map (keyed at key) (map update_lent (take (i + 1) updates))) old new
+  lent_more at key updates i none old mid new inside so_far step =
+      let one = get_or updates i none in
+      subst (λ (us : List Update). Takes tables (map (keyed at key) us) old new)
+      (sym (ap (map update_lent) (take_more updates i none inside)
+      ∙ map-append update_lent (take i updates) (one ∷ [])))
+      (update_more at key (map update_lent (take i updates)) (update_lent one) old mid new so_far
+      step)
 
   -- ---- entries, and segments
 

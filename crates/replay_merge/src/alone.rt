@@ -17,7 +17,7 @@ use crate::taking::take_mutation;
 use clog_base::{OutOfMemory, Position};
 use clog_entry::ENTRY_FRONT_SIZE;
 use clog_folder::{SegmentHeld, TableHeld};
-use clog_mutation::decode;
+use clog_mutation::lend;
 use clog_scan::Found;
 use std::alloc::Global;
 
@@ -45,14 +45,14 @@ fn take_entry(
 {
     let payload = &bytes[found.start as usize + ENTRY_FRONT_SIZE..found.end as usize - 4];
     // The entries that count have mutations, so only memory can be wanting.
-    let Ok(mutation) = decode(alloc, payload) else {
+    let Ok(mutation) = lend(alloc, payload) else {
         return Err(OutOfMemory);
     };
     let at = Position {
         id,
         offset: found.end,
     };
-    take_mutation(alloc, tables, merged, at, mutation)
+    take_mutation(alloc, tables, merged, at, &mutation)
 }
 
 /// Takes in the entry of a number if it is of the round.

@@ -1,15 +1,16 @@
 //! Updates are merged one by one, or counted where a table file stands for them.
-ghost use Rattle.std.specs.Prelude.{◌≡◌, [], ◌∷◌, ◌++◌, OnOk};
-ghost use Rattle.clog_cells.specs.Merge.{IsMerge};
+ghost use Rattle.std.specs.Prelude.{◌≡◌, [], OnOk};
+ghost use Rattle.clog_mutation.specs.Lent.{update_lent};
 ghost use Rattle.clog_mutation.specs.Payload.{pair_of};
 ghost use Rattle.replay_merge.specs.Merged.{IsJoin, IsKept, IsSkip, TakesOne, keyed};
 
 use crate::skipping::is_filed;
-use clog_base::{CellKey, OutOfMemory, Position, Text};
-use clog_cells::CellMap;
+use clog_base::{CellKey, OutOfMemory, Position, Table, Text};
+use clog_cells::{CellMap, LentCell};
 use clog_folder::TableHeld;
-use clog_mutation::Update;
+use clog_mutation::LentUpdate;
 use std::alloc::Global;
+use std::mem;
 
 /// What updates merge to, and how many they were.
 #[derive(Drop)]
@@ -20,21 +21,33 @@ pub struct Merged {
     pub updates: u64,
     /// How many were not, since table files stand for them.
     pub skipped: u64,
+    /// The key that was looked up last, whose memory is used again.
+    pub(crate) sought: CellKey,
 }
 
-/// Merges one update under its key.
-fn put_update(cells: &mut CellMap, key: Text, update: Update) -> Result<(), OutOfMemory>
-    ensures { OnOk result (IsMerge (cells.old ++ pair_of key update ∷ []) cells.new) }
+/// Fills a text anew, in the memory that it has.
+fn fill(alloc: Global, text: &mut Text, with: &str) -> Result<(), OutOfMemory>
+    ensures { OnOk result (text.new ≡ with.now) }
 {
-    let Update {
-        table,
-        column,
-        cell,
-    } = update;
-    match cells.put(CellKey { table, key, column }, cell) {
-        Ok(()) => Ok(()),
-        Err(_) => Err(OutOfMemory),
-    }
+    let mut string = mem::replace(text, Text::new(String::new(alloc))).into_string();
+    string.clear();
+    string.push_str(with)?;
+    *text = Text::new(string);
+    Ok(())
+}
+
+/// Makes a key that of an update.
+fn seek(
+    alloc: Global,
+    sought: &mut CellKey,
+    key: &str,
+    update: &LentUpdate<'_>,
+) -> Result<(), OutOfMemory>
+    ensures { OnOk result (sought.new ≡ (pair_of key.now (update_lent update.now)).0) }
+{
+    sought.table = update.table;
+    fill(alloc, &mut sought.key, key)?;
+    fill(alloc, &mut sought.column, update.column)
 }
 
 /// Counts an update as skipped.
@@ -49,31 +62,45 @@ fn skip(merged: &mut Merged) -> Result<(), OutOfMemory>
 }
 
 /// Merges an update, and counts it.
-fn keep(merged: &mut Merged, key: Text, update: Update) -> Result<(), OutOfMemory>
-    ensures { OnOk result (IsKept (pair_of key update) merged.old merged.new) }
+fn keep(
+    alloc: Global,
+    merged: &mut Merged,
+    key: &str,
+    update: &LentUpdate<'_>,
+) -> Result<(), OutOfMemory>
+    ensures { OnOk result
+        (IsKept (pair_of key.now (update_lent update.now)) merged.old merged.new) }
 {
     let Some(updates) = merged.updates.checked_add(1) else {
         return Err(OutOfMemory);
     };
-    put_update(&mut merged.cells, key, update)?;
+    seek(alloc, &mut merged.sought, key, update)?;
+    let cell = LentCell {
+        ts: update.ts,
+        kind: update.kind,
+        value: update.value,
+    };
+    merged.cells.put_lent(&merged.sought, cell)?;
     merged.updates = updates;
     Ok(())
 }
 
 /// Takes in an update at its position.
 pub(crate) fn take_update(
+    alloc: Global,
     tables: &[TableHeld],
     merged: &mut Merged,
     at: Position,
-    key: Text,
-    update: Update,
+    key: &str,
+    update: &LentUpdate<'_>,
 ) -> Result<(), OutOfMemory>
-    ensures { OnOk result (TakesOne tables.now (keyed at key update) merged.old merged.new) }
+    ensures { OnOk result
+        (TakesOne tables.now (keyed at key.now (update_lent update.now)) merged.old merged.new) }
 {
     if is_filed(tables, update.table, at) {
         return skip(merged);
     }
-    keep(merged, key, update)
+    keep(alloc, merged, key, update)
 }
 
 impl Merged {
@@ -87,6 +114,11 @@ impl Merged {
             cells: CellMap::new(alloc),
             updates: 0,
             skipped: 0,
+            sought: CellKey {
+                table: Table(0),
+                key: Text::new(String::new(alloc)),
+                column: Text::new(String::new(alloc)),
+            },
         }
     }
 

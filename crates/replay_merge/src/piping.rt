@@ -1,6 +1,7 @@
 //! Entries that come in any order are decoded and merged; of those that are refused the first is
 //! kept.
 ghost use Rattle.std.specs.Prelude.{◌↔◌, ◌≤◌, IfSome, IsTrue, List, OnOk};
+ghost use Rattle.clog_mutation.specs.Lent.{mutation_lent};
 ghost use Rattle.replay_merge.specs.declared.piped.Entry.{Entry as log_entry};
 ghost use Rattle.replay_merge.specs.Piped.{IsDone, IsFirstOf, IsFirstOfBoth, IsRefusal, IsUpTo};
 ghost use Rattle.replay_merge.specs.Piped.{JoinsPiped, TakesGood, TakesPiped};
@@ -11,7 +12,7 @@ use crate::taking::take_mutation;
 use clog_base::{OutOfMemory, PayloadFault, Position, Writer};
 use clog_folder::TableHeld;
 use clog_io::{Gate, Point};
-use clog_mutation::{Mutation, check, decode};
+use clog_mutation::{LentMutation, check, lend};
 use replay_queue::{Queue, Source, Work, run};
 use std::alloc::{AllocError, Global};
 use std::marker::Sync;
@@ -54,9 +55,10 @@ fn take_good(
     tables: &[TableHeld],
     state: &mut Piped,
     entry: &Entry,
-    mutation: Mutation,
+    mutation: &LentMutation<'_>,
 ) -> Result<(), OutOfMemory>
-    ensures { OnOk result (TakesGood tables.now entry.now mutation state.old state.new) }
+    ensures { OnOk result (TakesGood tables.now entry.now (mutation_lent mutation.now) state.old
+        state.new) }
 {
     let Some(entries) = state.entries.checked_add(1) else {
         return Err(OutOfMemory);
@@ -117,7 +119,7 @@ fn take_piped(
 ) -> Result<bool, OutOfMemory>
     ensures { OnOk result (TakesPiped tables.now entry.now state.old state.new) }
 {
-    let Ok(mutation) = decode(alloc, entry.payload.as_slice()) else {
+    let Ok(mutation) = lend(alloc, entry.payload.as_slice()) else {
         let Some(fault) = refusal(entry.payload.as_slice()) else {
             return Err(OutOfMemory);
         };
@@ -129,7 +131,7 @@ fn take_piped(
         state.refused = first_of(state.refused, refused);
         return Ok(false);
     };
-    take_good(alloc, tables, state, entry, mutation)?;
+    take_good(alloc, tables, state, entry, &mutation)?;
     Ok(true)
 }
 

@@ -6,6 +6,7 @@ use Rattle.clog_folder.specs.declared.tables.TableHeld.{TableHeld}
 use Rattle.clog_folder.specs.Listing.{IsSegmentAt, segment_cmp}
 use Rattle.clog_folder.specs.Tables.{HaveRead}
 use Rattle.clog_folder.proofs.Counting.{told_named}
+use Rattle.clog_folder.proofs.Passing.{both}
 use Rattle.clog_folder.proofs.FolderRead.{segments_refused, told_rows}
 use Rattle.replay_merge.specs.Settling.{HasPiped}
 use Rattle.replay_merge.proofs.Replayed.{replays}
@@ -73,3 +74,29 @@ returns-clause-replays g c =
     (subst (Lists files) (sym c.as_slice-3.ensures) c.in-Ok.ensures.names)
     c.count_segments-segments.ensures)
     (c.in_ok-restored_of.ensures p.items p.done)
+
+pub returns-in_err-restored_of-clause-keeps : goal.returns-in_err-restored_of-clause-keeps
+returns-in_err-restored_of-clause-keeps g c =
+    let stays = both g.D.Disk.files g.D.Disk.changes g.D.Disk.leaves g.D.Disk.moment
+    g.D.Disk.since g.D.Disk.read_at g.D.Disk.lasted_at g.D.Disk.faults c.args.disk.now in
+    stays c.read_tables.new.disk c.pipe_folder.new.disk
+    (stays c.list.new.self c.read_tables.new.disk (record {
+      same = c.in-Ok.ensures.same;
+      changes_are = c.in-Ok.ensures.quiet;
+      time = c.in-Ok.ensures.time;
+      later = c.in-Ok.ensures.cause.later;
+    }) c.in-Ok-read_tables.ensures.keeps)
+    c.in-Ok-pipe_folder.ensures.keeps
+
+pub returns-clause-keeps : goal.returns-clause-keeps
+returns-clause-keeps g c =
+    let stays = both g.D.Disk.files g.D.Disk.changes g.D.Disk.leaves g.D.Disk.moment
+    g.D.Disk.since g.D.Disk.read_at g.D.Disk.lasted_at g.D.Disk.faults c.args.disk.now in
+    stays c.read_tables.new.disk c.pipe_folder.new.disk
+    (stays c.list.new.self c.read_tables.new.disk (record {
+      same = c.in-Ok.ensures.same;
+      changes_are = c.in-Ok.ensures.quiet;
+      time = c.in-Ok.ensures.time;
+      later = c.in-Ok.ensures.cause.later;
+    }) c.in-Ok-read_tables.ensures.keeps)
+    c.in-Ok-pipe_folder.ensures.keeps

@@ -1,11 +1,10 @@
-use Rattle.std.proofs.Common.{◌≡◌, ◌++◌, length, map}
+use Rattle.std.proofs.Common.{map, take}
+use Rattle.clog_mutation.specs.Lent.{update_lent}
 use Rattle.replay_merge.specs.Merged.{Takes, keyed}
 use Rattle.replay_merge.proofs.taking.take_updates.Given as goal
 
--- what was taken is merged, and with what is left it is the whole
+-- of the updates seen
 abbrev pub invariant-loop-update : goal.invariant-loop-update
-invariant-loop-update l = record {
-  takes : Takes l.tables (map (keyed l.at l.key) l.yielded) l.fn.merged l.merged;
-  parts : l.fn.updates.items ≡ l.yielded ++ l.update-iterator.rest.items;
-  count : l.update-iterator.rest.len ≡ length l.update-iterator.rest.items;
-}
+invariant-loop-update l =
+    Takes l.tables (map (keyed l.at l.key) (map update_lent (take l.update-index l.updates)))
+    l.fn.merged l.merged
