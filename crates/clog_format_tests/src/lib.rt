@@ -16,6 +16,8 @@ mod mutations;
 #[cfg(test)]
 mod names;
 #[cfg(test)]
+mod pieces;
+#[cfg(test)]
 mod same;
 #[cfg(test)]
 mod segments;
