@@ -34,3 +34,35 @@ for words in replay 'replay --ignore-errors' apply 'apply --dump'; do
         "$pinsilver" $words
 done
 that 'it is left too' cmp -s cut commitlog/Table-0-1.tbl
+
+# A file shrinks between two of the pieces in which it is read: it is torn where its bytes end.
+fresh
+traces || { skipped 'a file that shrinks: no strace'; exit 0; }
+lines $(seq 100) | "$program" apply >/dev/null
+name=$(ls commitlog)
+cp "commitlog/$name" whole
+
+# shrunk WORD..: a replay that stops before its second piece; then the file is cut to the first one,
+# and the replay goes on.
+shrunk() {
+    cp whole "commitlog/$name"
+    : >trace
+    strace -o trace -P "$(realpath "commitlog/$name")" -e trace=lseek \
+        -e inject=lseek:signal=STOP:when=2 \
+        sh -c 'echo $$ >pid; exec "$0" "$@"' "$program" "$@" &
+    for try in $(seq 100); do
+        grep -q 'stopped by SIGSTOP' trace && break
+        sleep 0.1
+    done
+    truncate -s 65536 "commitlog/$name"
+    kill -CONT "$(cat pid)"
+    wait $!
+}
+
+expect 'a file that shrinks while it is read, the last one' 0 "$(counts 1 0 33 33 0)
+**" '' shrunk replay
+: >commitlog/CommitLog-6-9223372036854775807.log
+expect 'a file that shrinks below another segment' 7 "error 7: $name at 65536: Short" '' \
+    shrunk replay
+expect 'the same, read past it' 0 "$(counts 2 0 33 33 0)
+**" '' shrunk replay --ignore-errors
