@@ -1,5 +1,5 @@
 -- What a seat knows that flushes a table, with the table's Flush turn and beside it the Sync turn.
-use Rattle.std.specs.Prelude.{◌≡◌, ◌≢◌, ℕ, ◌^◌, ◌<◌, [], Some, None, IsTrue, is_some}
+use Rattle.std.specs.Prelude.{◌≡◌, ◌≢◌, ℕ, ◌<◌, [], Some, None, IsTrue, is_some}
 use Rattle.atomic_table.specs.Table.{Me}
 use Rattle.path_core.specs.declared.event.Cursor.TheVariants.{OldestLive}
 use Rattle.path_core.specs.declared.event.Place.TheVariants.{CursorWord, Newest}
@@ -11,6 +11,7 @@ use Rattle.path_rule.specs.declared.view.View.{View}
 use Rattle.path_rule.specs.Calls.{MayGive}
 use Rattle.path_rule.specs.Desks.{HasDesk}
 use Rattle.path_rule.specs.Finds.{Finds}
+use Rattle.path_rule.specs.Layout.{numbers_end}
 use Rattle.path_rule.specs.Switches.{FlushNewest, FlushOldest}
 use Rattle.path_rule.specs.Turns.{FoundPast}
 use Rattle.path_flush.specs.declared.flush_turn.Memtables.{Memtables}
@@ -55,9 +56,9 @@ FindsMemtables t (Free n) v after w = (s : QuietSteps w t 0 v after) × FindsAlo
 
 -- It knows the least that is not retired, and the newest: the same one, or another.
 abbrev pub KnowsMemtables : ℕ → Memtables → View → Type 0
-KnowsMemtables t (Left m) v = (m < 2 ^ 47) × FlushOldest t v.part m
+KnowsMemtables t (Left m) v = (m < numbers_end) × FlushOldest t v.part m
     × ((n : ℕ) × FlushNewest t v.part n × (m ≢ n))
-KnowsMemtables t (Free n) v = (n < 2 ^ 47) × FlushOldest t v.part n × FlushNewest t v.part n
+KnowsMemtables t (Free n) v = (n < numbers_end) × FlushOldest t v.part n × FlushNewest t v.part n
 
 -- The barrier of a memtable of the table is that of this group, and passed: nothing more is placed
 -- in it.

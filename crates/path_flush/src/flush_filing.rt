@@ -7,6 +7,7 @@ ghost use Rattle.path_core.specs.Keys.{after};
 ghost use Rattle.path_rule.specs.Filing.{MayPut, upper_of};
 ghost use Rattle.path_rule.specs.FilingTold.{CarriesFiled, FoundFinal, TurnSynced, next_file};
 ghost use Rattle.path_rule.specs.Flushes.{SeesNone, TakesNone};
+ghost use Rattle.path_rule.specs.Layout.{numbers_end};
 ghost use Rattle.path_rule.specs.Lasts.{shows_of};
 ghost use Rattle.path_table.specs.Members.{view_of, part_of, hands_of, boxes_of, IsOf};
 ghost use Rattle.path_flush.specs.FlushFilings.{AwaitsFile, HasBoth, HasTurns, Retired};
@@ -50,7 +51,7 @@ pub(crate) fn retire_void<K: Keeper, A: Allocator>(
     bound: Key,
 ) -> (Member<K>, Flush)
     requires table { IsOf path.now.table.shared.table_id path.now.size member }
-    requires there { memtable < 2 ^ 47 }
+    requires there { memtable < numbers_end }
     requires holds { HoldsBoth (shows_of K.holds) table.0 member.seat.me }
     requires sees { SeesNone path.now.size.seats (hands_of member) table.0 memtable }
     requires bound { FoundFinal table.0 (part_of member) memtable bound.0 }
@@ -77,7 +78,7 @@ fn retire_put<K: Keeper, A: Allocator>(
     synced: u64,
 ) -> (Member<K>, Flush)
     requires table { IsOf path.now.table.shared.table_id path.now.size member }
-    requires there { memtable < 2 ^ 47 }
+    requires there { memtable < numbers_end }
     requires files { path.now.size.files ≡ true }
     requires turns { HasTurns table.0 member.seat.me }
     requires turn { TurnSynced (part_of member) synced × (synced < 2 ^ 62)
@@ -120,7 +121,7 @@ pub(crate) fn put_file<K: Keeper, A: Allocator>(
     synced: u64,
 ) -> (Member<K>, Flush)
     requires table { IsOf path.now.table.shared.table_id path.now.size member }
-    requires there { memtable < 2 ^ 47 }
+    requires there { memtable < numbers_end }
     requires files { path.now.size.files ≡ true }
     requires holds { HasBoth (shows_of K.holds) table.0 member.seat.me }
     requires awaits { AwaitsFile path.now.size.seats table.0 memtable bound.0 cells.now

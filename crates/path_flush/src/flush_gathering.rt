@@ -1,9 +1,10 @@
 //! What was written to a memtable is gathered behind its barrier, from the boxes of all seats, and
 //! merged into the cells of a table file. For that its table's Flush turn is enough.
-ghost use Rattle.std.specs.Prelude.{◌^◌, ◌≡◌, suc, ◌<◌, ◌||◌, [], Some, true, false, IfSome};
+ghost use Rattle.std.specs.Prelude.{◌≡◌, suc, ◌<◌, ◌||◌, [], Some, true, false, IfSome};
 ghost use Rattle.clog_cells.specs.Batches.{WerePut};
 ghost use Rattle.path_core.specs.declared.note.EntryNote.{EntryNote};
 ghost use Rattle.path_rule.specs.declared.view.FlushRead.{FlushRead};
+ghost use Rattle.path_rule.specs.Layout.{numbers_end};
 ghost use Rattle.path_table.specs.Members.{view_of, hands_of, boxes_of, IsOf};
 ghost use Rattle.path_flush.specs.FlushGathers.{AreSome, HasGathered, HasGatheredAll};
 ghost use Rattle.path_flush.specs.FlushGathers.{HoldsGathered, IsMadeOf, told_some};
@@ -90,7 +91,7 @@ fn gather_box<K: Keeper, A: Allocator>(
     some: bool,
 ) -> (Member<K>, Option<bool>)
     requires table { IsOf path.now.table.shared.table_id path.now.size member }
-    requires there { (table.0 < path.now.size.tables) × (memtable < 2 ^ 47)
+    requires there { (table.0 < path.now.size.tables) × (memtable < numbers_end)
         × (seat < path.now.size.seats) }
     requires reads { HasRead table.0 memtable false seat (hands_of member) }
     requires gathered { HoldsGathered table cells.old some (hands_of member) }
@@ -122,7 +123,7 @@ fn gather_boxes<K: Keeper, A: Allocator>(
     cells: &mut CellBatches,
 ) -> (Member<K>, Option<bool>)
     requires table { IsOf path.now.table.shared.table_id path.now.size member }
-    requires there { (table.0 < path.now.size.tables) × (memtable < 2 ^ 47) }
+    requires there { (table.0 < path.now.size.tables) × (memtable < numbers_end) }
     requires reads { HasRead table.0 memtable false 0 (hands_of member) }
     requires void { ((q : FlushRead) → (hands_of member).reading ≡ Some q → q.seen ≡ [])
         × WerePut [] cells.old }
@@ -155,7 +156,7 @@ pub(crate) fn gather_apart<K: Keeper, A: Allocator>(
     memtable: u64,
 ) -> (Member<K>, Gathered)
     requires table { IsOf path.now.table.shared.table_id path.now.size member }
-    requires there { (table.0 < path.now.size.tables) × (memtable < 2 ^ 47) }
+    requires there { (table.0 < path.now.size.tables) × (memtable < numbers_end) }
     requires holds { HasTable table.0 member.seat.me }
     requires reads { HasRead table.0 memtable false 0 (hands_of member) }
     requires void { (q : FlushRead) → (hands_of member).reading ≡ Some q → q.seen ≡ [] }

@@ -1,7 +1,8 @@
 //! The table file of a memtable is put once the log is lasting up to the memtable's bound.
-ghost use Rattle.std.specs.Prelude.{◌^◌, ◌≡◌, ◌<◌, true, None};
+ghost use Rattle.std.specs.Prelude.{◌≡◌, ◌<◌, true, None};
 ghost use Rattle.path_rule.specs.Flushes.{TakesNone};
 ghost use Rattle.path_rule.specs.Issued.{issued_in, most_issued};
+ghost use Rattle.path_rule.specs.Layout.{numbers_end};
 ghost use Rattle.path_rule.specs.Lasts.{shows_of};
 ghost use Rattle.path_table.specs.Members.{view_of, hands_of, IsOf};
 ghost use Rattle.path_flush.specs.FlushFilings.{AwaitsFile, HasBoth, LastsTo, Retired};
@@ -27,7 +28,7 @@ fn put_lasting<K: Keeper, A: Allocator>(
     cells: &CellMap,
 ) -> (Member<K>, Flush)
     requires table { IsOf path.now.table.shared.table_id path.now.size member }
-    requires there { memtable < 2 ^ 47 }
+    requires there { memtable < numbers_end }
     requires files { path.now.size.files ≡ true }
     requires holds { HasBoth (shows_of K.holds) table.0 member.seat.me }
     requires awaits { AwaitsFile path.now.size.seats table.0 memtable bound.0 cells.now
@@ -62,7 +63,7 @@ fn file_cells<K: Keeper, A: Allocator, R: Wait>(
     cells: &CellMap,
 ) -> (Member<K>, Flush)
     requires table { IsOf path.now.table.shared.table_id path.now.size member }
-    requires there { memtable < 2 ^ 47 }
+    requires there { memtable < numbers_end }
     requires files { path.now.size.files ≡ true }
     requires holds { HasBoth (shows_of K.holds) table.0 member.seat.me }
     requires awaits { AwaitsFile path.now.size.seats table.0 memtable bound.0 cells.now
@@ -94,7 +95,7 @@ pub(crate) fn file_memtable<K: Keeper, A: Allocator, R: Wait>(
     cells: CellMap,
 ) -> (Member<K>, Flush)
     requires table { IsOf path.now.table.shared.table_id path.now.size member }
-    requires there { memtable < 2 ^ 47 }
+    requires there { memtable < numbers_end }
     requires files { path.now.size.files ≡ true }
     requires holds { HasBoth (shows_of K.holds) table.0 member.seat.me }
     requires awaits { AwaitsFile path.now.size.seats table.0 memtable bound.0 cells

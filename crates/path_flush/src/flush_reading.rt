@@ -1,9 +1,10 @@
 //! What was written to a memtable is read behind its barrier, in the boxes of all seats. Before
 //! that the boxes of the memtable below are emptied, which is retired.
-ghost use Rattle.std.specs.Prelude.{◌^◌, ◌≡◌, ℕ, suc, ◌≤◌, ◌<◌, true, false, [], None, Some};
+ghost use Rattle.std.specs.Prelude.{◌≡◌, ℕ, suc, ◌≤◌, ◌<◌, true, false, [], None, Some};
 ghost use Rattle.path_rule.specs.declared.view.FlushRead.{FlushRead};
 ghost use Rattle.path_rule.specs.Boxes.{memtable_box};
 ghost use Rattle.path_rule.specs.Flushes.{HasEmptied, SeesNone};
+ghost use Rattle.path_rule.specs.Layout.{numbers_end};
 ghost use Rattle.path_rule.specs.Switches.{FlushOldest, MayBeginRead};
 ghost use Rattle.path_table.specs.Members.{view_of, part_of, hands_of, boxes_of, IsOf};
 ghost use Rattle.path_flush.specs.FlushReads.{HasRead, ReadSteps};
@@ -131,7 +132,7 @@ fn read_box<K: Keeper, A: Allocator>(
     seat: u64,
 ) -> (Member<K>, bool)
     requires table { IsOf path.now.table.shared.table_id path.now.size member }
-    requires there { (table.0 < path.now.size.tables) × (memtable < 2 ^ 47)
+    requires there { (table.0 < path.now.size.tables) × (memtable < numbers_end)
         × (seat < path.now.size.seats) }
     requires reads { HasRead table.0 memtable false seat (hands_of member) }
     ensures same { Stays path.now.table.shared.table_id path.now.size member
@@ -161,7 +162,7 @@ pub(crate) fn read_boxes<K: Keeper, A: Allocator>(
     memtable: u64,
 ) -> (Member<K>, bool)
     requires table { IsOf path.now.table.shared.table_id path.now.size member }
-    requires there { (table.0 < path.now.size.tables) × (memtable < 2 ^ 47) }
+    requires there { (table.0 < path.now.size.tables) × (memtable < numbers_end) }
     requires reads { HasRead table.0 memtable false 0 (hands_of member) }
     requires void { (q : FlushRead) → (hands_of member).reading ≡ Some q → q.seen ≡ [] }
     ensures same { Stays path.now.table.shared.table_id path.now.size member

@@ -1,10 +1,11 @@
 //! A memtable to which nothing was written goes: it is retired without a table file, for which the
 //! Sync turn is taken. One that holds something is left. All turns are given back.
-ghost use Rattle.std.specs.Prelude.{◌^◌, ◌≡◌, ℕ, ◌<◌, ◌≤◌, None, Some};
+ghost use Rattle.std.specs.Prelude.{◌≡◌, ℕ, ◌<◌, ◌≤◌, None, Some};
 ghost use Rattle.path_core.specs.declared.seat.Switching.TheVariants.{WithBarrier};
 ghost use Rattle.path_core.specs.Parts.{stage_of};
 ghost use Rattle.path_rule.specs.Flushes.{SeesNone, TakesNone};
 ghost use Rattle.path_rule.specs.Issued.{issued_in, opened_in};
+ghost use Rattle.path_rule.specs.Layout.{numbers_end};
 ghost use Rattle.path_rule.specs.Lasts.{shows_of};
 ghost use Rattle.path_table.specs.Members.{view_of, part_of, hands_of, IsOf};
 ghost use Rattle.path_flush.specs.FlushSteps.{RetiresEmpty, UnswitchedSteps};
@@ -28,7 +29,7 @@ pub(crate) fn retire_read<K: Keeper, A: Allocator>(
     memtable: u64,
 ) -> Member<K>
     requires table { IsOf path.now.table.shared.table_id path.now.size member }
-    requires there { memtable < 2 ^ 47 }
+    requires there { memtable < numbers_end }
     requires holds { HoldsBoth (shows_of K.holds) table.0 member.seat.me }
     requires sees { SeesNone path.now.size.seats (hands_of member) table.0 memtable }
     ensures same { Stays path.now.table.shared.table_id path.now.size member
@@ -57,7 +58,7 @@ pub(crate) fn leave_empty<K: Keeper, A: Allocator, R: Wait>(
     group: u64,
 ) -> PathSeat<K>
     requires table { IsOf path.now.table.shared.table_id path.now.size member }
-    requires there { memtable < 2 ^ 47 }
+    requires there { memtable < numbers_end }
     requires holds { HasTable table.0 member.seat.me }
     requires sees { SeesNone path.now.size.seats (hands_of member) table.0 memtable }
     requires barrier { stage_of (part_of member) table.0 ≡ Some (WithBarrier memtable group) }

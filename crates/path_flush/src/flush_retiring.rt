@@ -1,10 +1,11 @@
 //! A memtable is read whole behind its passed barrier, and retired: with a table file where
 //! something was seen. For the reading the table's turn is enough, so commits that wait for a sync,
 //! and flushes of other tables, go on meanwhile; the Sync turn is taken behind it.
-ghost use Rattle.std.specs.Prelude.{◌^◌, ◌≡◌, ◌≢◌, ◌<◌, ℕ, true, None, Some};
+ghost use Rattle.std.specs.Prelude.{◌≡◌, ◌≢◌, ◌<◌, ℕ, true, None, Some};
 ghost use Rattle.path_core.specs.declared.seat.Switching.TheVariants.{Settled};
 ghost use Rattle.path_core.specs.Parts.{stage_of};
 ghost use Rattle.path_rule.specs.Issued.{issued_in, most_issued};
+ghost use Rattle.path_rule.specs.Layout.{numbers_end};
 ghost use Rattle.path_rule.specs.Lasts.{shows_of};
 ghost use Rattle.path_rule.specs.Switches.{FlushNewest, FlushOldest, MayBeginRead};
 ghost use Rattle.path_table.specs.Members.{view_of, part_of, hands_of, IsOf};
@@ -51,7 +52,7 @@ fn read_whole<K: Keeper, A: Allocator, R: Wait>(
     memtable: u64,
 ) -> (Member<K>, Gathered)
     requires table { IsOf path.now.table.shared.table_id path.now.size member }
-    requires there { memtable < 2 ^ 47 }
+    requires there { memtable < numbers_end }
     requires holds { HasTable table.0 member.seat.me }
     requires stage { MayBeginRead table.0 (view_of member) memtable }
     requires oldest { FlushOldest table.0 (part_of member) memtable }
@@ -80,7 +81,7 @@ pub(crate) fn retire_memtable<K: Keeper, A: Allocator, R: Wait>(
     memtable: u64,
 ) -> (Member<K>, Flush)
     requires table { IsOf path.now.table.shared.table_id path.now.size member }
-    requires there { memtable < 2 ^ 47 }
+    requires there { memtable < numbers_end }
     requires files { path.now.size.files ≡ true }
     requires holds { HasTable table.0 member.seat.me }
     requires stage { MayBeginRead table.0 (view_of member) memtable }
@@ -117,7 +118,7 @@ pub(crate) fn flush_left<K: Keeper, A: Allocator, R: Wait>(
 ) -> (Member<K>, Option<Flush>)
     requires table { IsOf path.now.table.shared.table_id path.now.size member }
     requires files { path.now.size.files ≡ true }
-    requires there { memtable < 2 ^ 47 }
+    requires there { memtable < numbers_end }
     requires holds { HoldsTable table.0 member.seat.me }
     requires settled { stage_of (part_of member) table.0 ≡ Some Settled }
     requires left { FlushOldest table.0 (part_of member) memtable

@@ -2,8 +2,9 @@
 //! and the one below it final at a key at or above all that the seat wrote, and a barrier is
 //! issued. Then it waits for the barrier, with its table's turn alone: nothing more comes into that
 //! one.
-ghost use Rattle.std.specs.Prelude.{◌^◌, ◌<◌, ◌≤◌};
+ghost use Rattle.std.specs.Prelude.{◌<◌, ◌≤◌};
 ghost use Rattle.path_rule.specs.Issued.{issued_in, most_issued, opened_in};
+ghost use Rattle.path_rule.specs.Layout.{numbers_end};
 ghost use Rattle.path_rule.specs.Lasts.{shows_of};
 ghost use Rattle.path_rule.specs.Switches.{FlushNewest, FlushOldest};
 ghost use Rattle.path_table.specs.Members.{view_of, part_of, IsOf, KeepsBoxes};
@@ -31,7 +32,7 @@ fn make_final<K: Keeper, A: Allocator>(
     requires table { IsOf path.now.table.shared.table_id path.now.size member.old }
     requires holder { IsHolder table.0 (view_of member.old) }
     requires turn { FlushNewest table.0 (part_of member.old) newest
-        × FlushOldest table.0 (part_of member.old) newest × (newest < 2 ^ 47) }
+        × FlushOldest table.0 (part_of member.old) newest × (newest < numbers_end) }
     requires paid { opened_in (view_of member.old).trail
         ≤ issued_in (view_of member.old).trail }
     ensures same { KeepsBoxes member.old member.new }
@@ -59,7 +60,7 @@ pub(crate) fn switch_table<K: Keeper, A: Allocator, R: Wait>(
     requires table { IsOf path.now.table.shared.table_id path.now.size member }
     requires holds { HoldsBoth (shows_of K.holds) table.0 member.seat.me }
     requires turn { FlushNewest table.0 (part_of member) newest
-        × FlushOldest table.0 (part_of member) newest × (newest < 2 ^ 47) }
+        × FlushOldest table.0 (part_of member) newest × (newest < numbers_end) }
     requires numbers { (opened_in (view_of member).trail ≤ issued_in (view_of member).trail)
         × (issued_in (view_of member).trail < most_issued) }
     ensures same { Stays path.now.table.shared.table_id path.now.size member

@@ -11,6 +11,7 @@ ghost use Rattle.path_core.specs.declared.seat.Switching.TheVariants.{Settled};
 ghost use Rattle.path_core.specs.Parts.{stage_of};
 ghost use Rattle.path_rule.specs.declared.view.View.{View};
 ghost use Rattle.path_rule.specs.Issued.{issued_in, most_issued, opened_in};
+ghost use Rattle.path_rule.specs.Layout.{numbers_end};
 ghost use Rattle.path_rule.specs.Switches.{FlushNewest, FlushOldest};
 ghost use Rattle.path_table.specs.Members.{view_of, part_of, IsOf};
 ghost use Rattle.path_flush.specs.Flushed.{Flushes, FlushesBy, GotTurn};
@@ -45,7 +46,7 @@ fn flush_newest<K: Keeper, A: Allocator, R: Wait>(
     requires holds { HoldsTable table.0 member.seat.me }
     requires settled { stage_of (part_of member) table.0 ≡ Some Settled }
     requires turn { FlushNewest table.0 (part_of member) newest
-        × FlushOldest table.0 (part_of member) newest × (newest < 2 ^ 47) }
+        × FlushOldest table.0 (part_of member) newest × (newest < numbers_end) }
     requires numbers { (opened_in (view_of member).trail ≤ issued_in (view_of member).trail)
         × (issued_in (view_of member).trail + 1 < most_issued) }
     ensures same { Stays path.now.table.shared.table_id path.now.size member

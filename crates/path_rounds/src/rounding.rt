@@ -1,10 +1,11 @@
 //! A round of a sync, in the hand of the holder of the Sync turn, which has the desk alone: from
 //! the marker over its barrier and the boxes to the end.
-ghost use Rattle.std.specs.Prelude.{◌^◌, ◌+◌, ◌≡◌, ◌<◌, true, Some, None, []};
+ghost use Rattle.std.specs.Prelude.{◌+◌, ◌≡◌, ◌<◌, true, Some, None, []};
 ghost use Rattle.op_core.specs.declared.count.Order.TheVariants.{Append};
 ghost use Rattle.path_rule.specs.Calls.{MayGive};
 ghost use Rattle.path_rule.specs.Desks.{HasDesk};
 ghost use Rattle.path_rule.specs.Issued.{issued_in, most_issued};
+ghost use Rattle.path_rule.specs.Layout.{numbers_end};
 ghost use Rattle.path_rule.specs.Lasts.{shows_of};
 ghost use Rattle.path_rule.specs.Reached.{Reaches, ReachesFound};
 ghost use Rattle.path_rule.specs.Rounds.{RoundSteps, WroteBelow};
@@ -42,7 +43,7 @@ pub fn bar_round<K: Keeper, A: Allocator, R: Wait>(
         × ((hands_of member).progress.marker
         ≡ Some (record { by = member.number; start = start; barrier = None })) }
     requires runs { FoundRunning (part_of member) }
-    requires current { TurnSaw Append (part_of member) current × (current < 2 ^ 47) }
+    requires current { TurnSaw Append (part_of member) current × (current < numbers_end) }
     requires spends { issued_in (view_of member).trail < most_issued }
     requires desk { HasDesk (shows_of K.holds) (hands_of member).lasting
         (hands_of member).pending (hands_of member).progress (boxes_of member) }

@@ -1,11 +1,12 @@
 //! The holder of the Sync turn gathers the boxes of all seats, one by one. It has the desk alone in
 //! hand between two boxes, and what it took out of a box is pending on the desk before the box goes
 //! home.
-ghost use Rattle.std.specs.Prelude.{◌^◌, ◌+◌, ◌≡◌, ◌<◌, []};
+ghost use Rattle.std.specs.Prelude.{◌+◌, ◌≡◌, ◌<◌, []};
 ghost use Rattle.op_core.specs.declared.count.Order.TheVariants.{Append};
 ghost use Rattle.path_core.specs.declared.seat.Issue.TheVariants.{Rest};
 ghost use Rattle.path_rule.specs.Calls.{Holds};
 ghost use Rattle.path_rule.specs.Desks.{HasDesk};
+ghost use Rattle.path_rule.specs.Layout.{numbers_end};
 ghost use Rattle.path_rule.specs.Lasts.{shows_of};
 ghost use Rattle.path_rule.specs.Rounds.{RoundSteps};
 ghost use Rattle.path_rule.specs.Sweeps.{SweepsOne, SweptAll};
@@ -31,7 +32,7 @@ fn gather_box<K: Keeper, A: Allocator>(
 ) -> (Member<K>, bool)
     requires table { IsOf path.now.table.shared.table_id path.now.size member }
     requires turn { Holds Rest (view_of member) × TurnSaw Append (part_of member) current
-        × (current < 2 ^ 47) }
+        × (current < numbers_end) }
     requires more { ((hands_of member).swept ≡ swept) × (swept < path.now.size.seats)
         × (path.now.size.seats < 65536) }
     requires desk { HasDesk (shows_of K.holds) (hands_of member).lasting
@@ -67,7 +68,7 @@ pub fn gather_all<K: Keeper, A: Allocator, R: Wait>(
 ) -> Member<K>
     requires table { IsOf path.now.table.shared.table_id path.now.size member }
     requires turn { Holds Rest (view_of member) × TurnSaw Append (part_of member) current
-        × (current < 2 ^ 47) }
+        × (current < numbers_end) }
     requires fresh { ((hands_of member).swept ≡ 0)
         × (progress ≡ (hands_of member).progress) }
     requires desk { HasDesk (shows_of K.holds) (hands_of member).lasting

@@ -1,7 +1,7 @@
 //! Barriers: of the write order, issued for a switched memtable, and of the append order for the
 //! last marker, where the call waits until all operations before it are closed
 //! (`OpOrder.Barrier.await`).
-ghost use Rattle.std.specs.Prelude.{◌^◌, ◌*◌, ◌≡◌, ℕ, suc, ◌+◌, ◌<◌, ◌≤◌, true, [], Some};
+ghost use Rattle.std.specs.Prelude.{◌*◌, ◌≡◌, ℕ, suc, ◌+◌, ◌<◌, ◌≤◌, true, [], Some};
 ghost use Rattle.op_core.specs.declared.count.Order.TheVariants.{Write, Append};
 ghost use Rattle.path_core.specs.declared.event.Event.TheVariants.{Advance};
 ghost use Rattle.path_core.specs.declared.seat.Issue.TheVariants.{Rest};
@@ -11,6 +11,7 @@ ghost use Rattle.path_core.specs.Parts.{marker_of, stage_of};
 ghost use Rattle.path_rule.specs.Calls.{Holds, IsPast};
 ghost use Rattle.path_rule.specs.HandsAfter.{issued_hands};
 ghost use Rattle.path_rule.specs.Issued.{issued_in, most_issued};
+ghost use Rattle.path_rule.specs.Layout.{numbers_end};
 ghost use Rattle.path_rule.specs.Rounds.{RoundSteps};
 ghost use Rattle.path_rule.specs.Switches.{FlushOldest};
 ghost use Rattle.path_rule.specs.Turns.{FoundRunning, MarkerWaits, TurnSaw, TurnOld};
@@ -77,7 +78,7 @@ pub(crate) fn advance_to<K: Keeper, A: Allocator, R: Wait>(
 ) -> Holder<K>
     requires table { IsOf path.now.table.shared.table_id path.now.size holder.member }
     requires current { TurnSaw order (part_of holder.member) current × (upto ≤ current)
-        × (current ≤ 2 ^ 47) }
+        × (current ≤ numbers_end) }
     ensures same { KeepsSizes holder.member result.member }
     ensures steps { RoundSteps holder.member.number 0 [] (view_of holder.member)
         (view_of result.member) }
@@ -116,7 +117,7 @@ fn make_room<K: Keeper, A: Allocator, R: Wait>(
     current: u64,
 ) -> Holder<K>
     requires table { IsOf path.now.table.shared.table_id path.now.size holder.member }
-    requires current { TurnSaw order (part_of holder.member) current × (current < 2 ^ 47) }
+    requires current { TurnSaw order (part_of holder.member) current × (current < numbers_end) }
     ensures same { KeepsSizes holder.member result.member }
     ensures steps { RoundSteps holder.member.number 0 [] (view_of holder.member)
         (view_of result.member) }
@@ -144,7 +145,7 @@ pub fn issue_write<K: Keeper, A: Allocator, R: Wait>(
     current: u64,
 ) -> Holder<K>
     requires table { IsOf path.now.table.shared.table_id path.now.size holder.member }
-    requires current { TurnSaw Write (part_of holder.member) current × (current < 2 ^ 47) }
+    requires current { TurnSaw Write (part_of holder.member) current × (current < numbers_end) }
     requires spends { issued_in (view_of holder.member).trail < most_issued }
     requires waiting { HasWaiting (part_of holder.member) }
     ensures same { KeepsSizes holder.member result.member }
@@ -185,7 +186,7 @@ pub fn marker_barrier<K: Keeper, A: Allocator, R: Wait>(
         × MarkerWaits holder.member.number (part_of holder.member) start }
     requires runs { FoundRunning (part_of holder.member) }
     requires gathered { (hands_of holder.member).progress.gathered ≡ true }
-    requires current { TurnSaw Append (part_of holder.member) current × (current < 2 ^ 47) }
+    requires current { TurnSaw Append (part_of holder.member) current × (current < numbers_end) }
     requires spends { issued_in (view_of holder.member).trail < most_issued }
     ensures same { KeepsSizes holder.member result.member }
     ensures steps { RoundSteps holder.member.number 1 [] (view_of holder.member)

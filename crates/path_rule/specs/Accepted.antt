@@ -1,5 +1,5 @@
 -- The memtables that accepted a deposited write, and what the close of the write carries.
-use Rattle.std.specs.Prelude.{◌^◌, ◌≡◌, ◌≢◌, ℕ, zero, suc, ◌+◌, ◌<◌, true, ◌/◌, ◌%◌, ◌==◌}
+use Rattle.std.specs.Prelude.{◌≡◌, ◌≢◌, ℕ, zero, suc, ◌+◌, ◌<◌, true, ◌/◌, ◌%◌, ◌==◌}
 use Rattle.std.specs.Prelude.{if◌then◌else◌, List, [], ◌∷◌, Some, IsTrue}
 use Rattle.std.specs.Option.{option_map_or}
 use Rattle.clog_base.specs.declared.cell.Table.{Table}
@@ -9,6 +9,7 @@ use Rattle.path_core.specs.declared.state.Bound.{Bound}
 use Rattle.path_core.specs.declared.state.Bound.TheVariants.{Live}
 use Rattle.path_core.specs.Parts.{is_final, seat_table, touches}
 use Rattle.path_core.specs.SeatParts.{is_final_below, is_raising, takes}
+use Rattle.path_rule.specs.Layout.{numbers_end}
 
 -- The tables of a set from a number on, each with a memtable. Of the set's bits, from that table
 -- on, so many are read.
@@ -36,7 +37,7 @@ places_of s = places_from (place_at s) (tables_noted s) 0 (tables_noted s)
 -- is tried, whose number fits its word; at a raising one nothing is settled.
 pub record TriesBound (end m : ℕ) (b : Bound) (after : SeatTable) : Type 0 where
   pub takes : takes end b ≡ true → after.place ≡ Some m
-  pub later : is_final_below end b ≡ true → (after.trying ≡ Some (m + 1)) × (m + 1 < 2 ^ 47)
+  pub later : is_final_below end b ≡ true → (after.trying ≡ Some (m + 1)) × (m + 1 < numbers_end)
   pub raising : is_raising b ≡ true → after.trying ≡ Some m
   pub found : after.bound ≡ Some (record { memtable = m; bound = b })
 

@@ -20,12 +20,9 @@ use Rattle.path_core.specs.declared.state.PathState.{PathState}
 use Rattle.path_core.specs.Parts.{cleared_of, groups_of, seat_of, table_of}
 use Rattle.path_core.specs.Words.{place_of}
 
--- how many groups of an order, and how many memtables of a table, have numbers that fit their words
-abbrev pub group_rows : ℕ
-group_rows = 2 ^ 47
-
-abbrev pub memtable_rows : ℕ
-memtable_rows = 2 ^ 47
+-- The numbers of groups and of memtables are below this one: a count's word has room for so many.
+abbrev pub numbers_end : ℕ
+numbers_end = 2 ^ 47
 
 -- and the words in all
 abbrev pub word_rows : ℕ

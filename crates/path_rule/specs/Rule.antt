@@ -45,8 +45,7 @@ use Rattle.path_rule.specs.Lasts.{none_filed, none_lasting, shown}
 use Rattle.path_rule.specs.Memtables.{HasMemtables}
 use Rattle.path_rule.specs.Reads.{ReadsAs}
 use Rattle.path_rule.specs.Trails.{TrailTells, ViewTells}
-use Rattle.path_rule.specs.Layout.{word_at, IsShown, word_for, reading_at, word_rows, group_rows}
-use Rattle.path_rule.specs.Layout.{memtable_rows}
+use Rattle.path_rule.specs.Layout.{word_at, IsShown, word_for, reading_at, word_rows, numbers_end}
 
 -- the machine's opening
 abbrev pub start_of : PathSize → PathState
@@ -187,8 +186,8 @@ AreBuilt opened x (e ∷ es) y run =
 
 -- The numbers of all groups and memtables that were made fit their words.
 pub record HasRows (x : PathState) : Type 0 where
-  pub groups : (o : Order) → length (groups_of x o).tallies ≤ group_rows
-  pub memtables : (t : ℕ) → length (table_of x t).memtables ≤ memtable_rows
+  pub groups : (o : Order) → length (groups_of x o).tallies ≤ numbers_end
+  pub memtables : (t : ℕ) → length (table_of x t).memtables ≤ numbers_end
   pub all : made_below 16 x ≤ most_memtables
 
 -- The rule. It has no law of its own: the law of the machine holds in each state that a run leads

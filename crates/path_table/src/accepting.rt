@@ -16,7 +16,7 @@ ghost use Rattle.path_core.specs.Parts.{seat_table};
 ghost use Rattle.path_core.specs.SeatParts.{deposited_end, has_note_of};
 ghost use Rattle.path_rule.specs.Accepted.{places_of, IsPlaced, RaisesBound, TriesBound};
 ghost use Rattle.path_rule.specs.Applying.{AreApplied};
-ghost use Rattle.path_rule.specs.Layout.{bound_in, bound_word};
+ghost use Rattle.path_rule.specs.Layout.{bound_in, bound_word, numbers_end};
 ghost use Rattle.path_rule.specs.Switches.{FlushOldest};
 ghost use Rattle.path_rule.specs.Turns.{KnowsMemtable};
 ghost use Rattle.path_table.specs.Members.{part_of, hands_of, IsOf, KeepsBoxes, Stepped};
@@ -50,7 +50,7 @@ impl<K: Keeper, A: Allocator> PathTable<K, A> {
         ensures same { KeepsBoxes member.old member.new }
         ensures step { Stepped member.old (Look member.old.number (CursorWord (OldestLive table)))
             result member.new }
-        ensures below { result < 2 ^ 47 }
+        ensures below { result < numbers_end }
         ensures tries { IsTrue (has_note_of (part_of member.old) table.0)
             → (seat_table (part_of member.old) table.0).trying ≡ None
             → (seat_table (part_of member.new) table.0).trying ≡ Some result }
@@ -69,7 +69,7 @@ impl<K: Keeper, A: Allocator> PathTable<K, A> {
     pub fn look_bound(&self, member: &mut Member<K>, table: Table, memtable: u64) -> BoundOf
         requires table { IsOf self.now.table.shared.table_id self.now.size member.old }
         requires there { table.0 < self.now.size.tables }
-        requires known { (memtable < 2 ^ 47)
+        requires known { (memtable < numbers_end)
             × KnowsMemtable (part_of member.old) table.0 memtable }
         ensures same { KeepsBoxes member.old member.new }
         ensures step { Stepped member.old (Look member.old.number (Bound table memtable))
@@ -102,7 +102,7 @@ impl<K: Keeper, A: Allocator> PathTable<K, A> {
         end: Key,
     ) -> BoundOf
         requires table { IsOf self.now.table.shared.table_id self.now.size member.old }
-        requires there { (table.0 < self.now.size.tables) × (memtable < 2 ^ 47)
+        requires there { (table.0 < self.now.size.tables) × (memtable < numbers_end)
             × (end.0 < 2 ^ 62) }
         requires writer { RaisesAsWriter (part_of member.old) table.0 memtable end.0 }
         requires found { (b : BoundKind) × ((seat_table (part_of member.old) table.0).bound
@@ -127,7 +127,7 @@ impl<K: Keeper, A: Allocator> PathTable<K, A> {
     /// box there (`OpOrder.Group.close`). Returns the count that it found.
     pub fn leave_placed(&self, member: &mut Member<K>, group: u64) -> u64
         requires table { IsOf self.now.table.shared.table_id self.now.size member.old }
-        requires group { (group < 2 ^ 47) × ((part_of member.old).write ≡ Some group) }
+        requires group { (group < numbers_end) × ((part_of member.old).write ≡ Some group) }
         requires deposited { (part_of member.old).append ≡ None }
         requires placed { IsPlaced (part_of member.old) }
         requires applied { AreApplied (part_of member.old) (hands_of member.old) }

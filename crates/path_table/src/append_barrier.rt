@@ -1,7 +1,7 @@
 //! The steps of a barrier of the append order, which the last marker waits for. The next group is
 //! made and becomes the current one, the one before expires, and the oldest group moves over those
 //! whose counts are finished.
-ghost use Rattle.std.specs.Prelude.{◌*◌, ◌^◌, ◌≡◌, ℕ, suc, ◌+◌, ◌<◌, ◌≤◌, true};
+ghost use Rattle.std.specs.Prelude.{◌*◌, ◌≡◌, ℕ, suc, ◌+◌, ◌<◌, ◌≤◌, true};
 ghost use Rattle.op_core.specs.declared.count.Order.TheVariants.{Append};
 ghost use Rattle.path_core.specs.declared.event.Event.TheVariants.{OpenGroup, MoveCurrent, Expire};
 ghost use Rattle.path_core.specs.declared.event.Event.TheVariants.{Advance};
@@ -11,6 +11,7 @@ ghost use Rattle.path_core.specs.Parts.{marker_of, stage_of};
 ghost use Rattle.path_rule.specs.Calls.{Holds};
 ghost use Rattle.path_rule.specs.HandsAfter.{issued_hands};
 ghost use Rattle.path_rule.specs.Issued.{issued_in, most_issued};
+ghost use Rattle.path_rule.specs.Layout.{numbers_end};
 ghost use Rattle.path_rule.specs.Rule.{Was};
 ghost use Rattle.path_rule.specs.Turns.{FoundRunning, MarkerWaits, TurnSaw, TurnOld, TurnGone};
 ghost use Rattle.path_rule.specs.Turns.{KeepsCurrent};
@@ -31,7 +32,7 @@ impl<K: Keeper, A: Allocator> PathTable<K, A> {
         requires turn { Holds Rest (view_of member.old)
             × TurnSaw Append (part_of member.old) current × (group ≡ suc current)
             × (issued_in (view_of member.old).trail < most_issued) }
-        requires small { current < 2 ^ 47 }
+        requires small { current < numbers_end }
         requires marker { (start : ℕ) × MarkerWaits member.old.number (part_of member.old) start }
         requires runs { FoundRunning (part_of member.old) }
         requires free { (oldest : ℕ) × TurnOld Append (part_of member.old) oldest
@@ -81,7 +82,7 @@ impl<K: Keeper, A: Allocator> PathTable<K, A> {
         requires table { IsOf self.now.table.shared.table_id self.now.size member.old }
         requires turn { Holds (Moved Append) (view_of member.old)
             × TurnSaw Append (part_of member.old) current × (suc group ≡ current)
-            × (group < 2 ^ 47) }
+            × (group < numbers_end) }
         ensures same { KeepsSizes member.old member.new }
         ensures step { Stepped member.old (Expire member.old.number Append group) result
             member.new }

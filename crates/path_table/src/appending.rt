@@ -15,6 +15,7 @@ ghost use Rattle.path_core.specs.Whole.{IsWhole};
 ghost use Rattle.path_rule.specs.declared.slot.Slot.TheVariants.{Notes};
 ghost use Rattle.path_rule.specs.Boxes.{box_of};
 ghost use Rattle.path_rule.specs.HandsAfter.{with_notes};
+ghost use Rattle.path_rule.specs.Layout.{numbers_end};
 ghost use Rattle.path_rule.specs.Told.{Took, CarriesNotes};
 ghost use Rattle.path_rule.specs.Turns.{Sighted};
 ghost use Rattle.path_table.specs.Members.{view_of, part_of, hands_of, boxes_of, IsOf, IsSame};
@@ -34,7 +35,7 @@ impl<K: Keeper, A: Allocator> PathTable<K, A> {
         ensures same { KeepsBoxes member.old member.new }
         ensures step { Stepped member.old (Look member.old.number (Current Append)) result
             member.new }
-        ensures below { result < 2 ^ 47 }
+        ensures below { result < numbers_end }
     {
         self.table
             .shared
@@ -45,7 +46,7 @@ impl<K: Keeper, A: Allocator> PathTable<K, A> {
     /// group that took it. The member knows that the group was made.
     pub fn look_appenders(&self, member: &mut Member<K>, group: u64) -> u64
         requires table { IsOf self.now.table.shared.table_id self.now.size member.old }
-        requires group { (group < 2 ^ 47) × Sighted (view_of member.old) (Count Append group) }
+        requires group { (group < numbers_end) × Sighted (view_of member.old) (Count Append group) }
         ensures same { KeepsBoxes member.old member.new }
         ensures step { Stepped member.old (Look member.old.number (Count Append (number_in result)))
             result
@@ -62,7 +63,7 @@ impl<K: Keeper, A: Allocator> PathTable<K, A> {
     /// found: where that is another, this was a look.
     pub fn join(&self, member: &mut Member<K>, group: u64, looked: u64) -> u64
         requires table { IsOf self.now.table.shared.table_id self.now.size member.old }
-        requires group { (group < 2 ^ 47)
+        requires group { (group < numbers_end)
             × ((found_of Append (part_of member.old)).current ≡ Some group)
             × (number_in looked ≡ group) × (looked < 2 ^ 63) }
         requires ready { IsSome (part_of member.old).write × ((part_of member.old).append ≡ None)
@@ -89,7 +90,7 @@ impl<K: Keeper, A: Allocator> PathTable<K, A> {
     /// Leaves the append order, before a claim. The box goes home as it was taken.
     pub fn withdraw(&self, member: &mut Member<K>, group: u64) -> u64
         requires table { IsOf self.now.table.shared.table_id self.now.size member.old }
-        requires group { (group < 2 ^ 47) × ((part_of member.old).append ≡ Some group)
+        requires group { (group < numbers_end) × ((part_of member.old).append ≡ Some group)
             × ((part_of member.old).claim ≡ None) }
         requires box_kept { CarriesNotes (box_of member.old.number group)
             (hands_of member.old).notes member.old.seat.me }
@@ -144,7 +145,7 @@ impl<K: Keeper, A: Allocator> PathTable<K, A> {
     /// what was there (`Allocation.markWritten`). The box goes home. The entry ends at `end`.
     pub fn deposit(&self, member: &mut Member<K>, group: u64, end: u64) -> u64
         requires table { IsOf self.now.table.shared.table_id self.now.size member.old }
-        requires group { (group < 2 ^ 47) × ((part_of member.old).append ≡ Some group) }
+        requires group { (group < numbers_end) × ((part_of member.old).append ≡ Some group) }
         requires note { (note : EntryNote)
             × ((part_of member.old).claim
             ≡ Some (record { start = note.start.0; end = note.end.0 }))

@@ -1,6 +1,7 @@
 //! Up to which key the memtables of each table were switched, as a closed table tells it.
-ghost use Rattle.std.specs.Prelude.{◌^◌, ◌≡◌, ◌+◌, ◌*◌, ◌<◌, ◌≤◌, ℕ, slice_index};
+ghost use Rattle.std.specs.Prelude.{◌≡◌, ◌+◌, ◌*◌, ◌<◌, ◌≤◌, ℕ, slice_index};
 ghost use Rattle.std.specs.Slots.{slots_items, slots_len, IsFull};
+ghost use Rattle.path_rule.specs.Layout.{numbers_end};
 ghost use Rattle.path_table.specs.ClosedBounds.{last_key};
 
 use crate::words::{BOUNDS, NEWEST, RAISING};
@@ -33,7 +34,7 @@ fn last_bound<K>(closed: &Closed<Slot<K>, Global>, table: usize) -> u64
     requires full { IsFull closed.now.words }
     requires wide { 200 ≤ slots_len closed.now.words }
     requires table { table < 16 }
-    requires few { slice_index (slots_items closed.now.words) (8 + 4 * table) ≤ 2 ^ 47 }
+    requires few { slice_index (slots_items closed.now.words) (8 + 4 * table) ≤ numbers_end }
     ensures { result ≡ last_key (slots_items closed.now.words) table }
 {
     let newest = closed.word(NEWEST + 4 * table);
@@ -49,7 +50,7 @@ pub(crate) fn last_bounds<K>(closed: &Closed<Slot<K>, Global>) -> TableBounds
     requires full { IsFull closed.now.words }
     requires wide { 200 ≤ slots_len closed.now.words }
     requires few { (t : ℕ) → t < 16
-        → slice_index (slots_items closed.now.words) (8 + 4 * t) ≤ 2 ^ 47 }
+        → slice_index (slots_items closed.now.words) (8 + 4 * t) ≤ numbers_end }
     ensures { (t : ℕ) → t < 16
         → slice_index result.keys t ≡ last_key (slots_items closed.now.words) t }
 {

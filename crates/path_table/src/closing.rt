@@ -1,11 +1,12 @@
 //! Seats are taken in by one of them, and that one closes the table.
-ghost use Rattle.std.specs.Prelude.{◌^◌, ◌≡◌, ℕ, ◌+◌, ◌*◌, ◌<◌, ◌≤◌, None, [], ◌∷◌, ◌++◌};
+ghost use Rattle.std.specs.Prelude.{◌≡◌, ℕ, ◌+◌, ◌*◌, ◌<◌, ◌≤◌, None, [], ◌∷◌, ◌++◌};
 ghost use Rattle.std.specs.Prelude.{slice_index};
 ghost use Rattle.std.specs.Slots.{slots_items, slots_len, IsFull};
 ghost use mathlib.Core.Option.{some};
 ghost use lib.ListN.{get_elem?};
 ghost use Rattle.path_core.specs.Parts.{HoldsNoTurn};
 ghost use Rattle.path_rule.specs.FirstBoxes.{HasInFront};
+ghost use Rattle.path_rule.specs.Layout.{numbers_end};
 ghost use Rattle.path_rule.specs.Lasts.{beside_of};
 ghost use Rattle.path_rule.specs.Sharing.{Ended, HasAll};
 ghost use Rattle.path_table.specs.ClosedBounds.{TellsBounds, last_key};
@@ -67,7 +68,7 @@ pub(crate) fn keeper_and_log<K: Keeper + Drop>(
 ) -> (K, u64, TableBounds)
     requires full { IsFull closed.words × IsFull closed.slots }
     requires words { 200 ≤ slots_len closed.words }
-    requires few { (t : ℕ) → t < 16 → slice_index (slots_items closed.words) (8 + 4 * t) ≤ 2 ^ 47 }
+    requires few { (t : ℕ) → t < 16 → slice_index (slots_items closed.words) (8 + 4 * t) ≤ numbers_end }
     requires boxes { 0 < slots_len closed.slots }
     requires desk { (keeper : K) × HasInFront keeper (slots_items closed.slots) }
     ensures keeper { (keeper : K) → HasInFront keeper (slots_items closed.slots)

@@ -25,6 +25,7 @@ ghost use Rattle.path_rule.specs.FilingTold.{CarriesUndropped, FoundFinal, HasDr
 ghost use Rattle.path_rule.specs.FilingTold.{TurnSynced, next_file};
 ghost use Rattle.path_rule.specs.Finds.{Finds};
 ghost use Rattle.path_rule.specs.HandsAfter.{with_desk, with_reading};
+ghost use Rattle.path_rule.specs.Layout.{numbers_end};
 ghost use Rattle.path_rule.specs.Lasts.{shows_of};
 ghost use Rattle.path_rule.specs.Retires.{RetiresFiledIn};
 ghost use Rattle.path_rule.specs.Rule.{Was};
@@ -168,7 +169,7 @@ impl<K: Keeper, A: Allocator> PathTable<K, A> {
     /// file ended. The desk tells of the file then.
     pub fn retire_filed(&self, member: &mut Member<K>, table: Table, memtable: u64, bound: Key)
         requires table { IsOf self.now.table.shared.table_id self.now.size member.old }
-        requires there { (table.0 < self.now.size.tables) × (memtable < 2 ^ 47) }
+        requires there { (table.0 < self.now.size.tables) × (memtable < numbers_end) }
         requires files { self.now.size.files ≡ true }
         requires turn { (key : ℕ) × TurnSynced (part_of member.old) key
             × (bound.0 ≤ after self.now.size.capacity key)

@@ -2,7 +2,7 @@
 //! takes the boxes of all seats one by one, and gives each back. Before that it empties those of
 //! the memtable below, which is retired, in the same way. The looks at which a box moves are at the
 //! table's newest memtable, a word that hardly ever changes.
-ghost use Rattle.std.specs.Prelude.{◌^◌, ◌≡◌, ℕ, suc, ◌+◌, ◌<◌, true, false, List, [], Some};
+ghost use Rattle.std.specs.Prelude.{◌≡◌, ℕ, suc, ◌+◌, ◌<◌, true, false, List, [], Some};
 ghost use Rattle.atomic_table.specs.Table.{rest};
 ghost use Rattle.path_core.specs.declared.event.Cursor.TheVariants.{OldestLive};
 ghost use Rattle.path_core.specs.declared.event.Event.TheVariants.{Look, Put};
@@ -13,6 +13,7 @@ ghost use Rattle.path_rule.specs.Flushes.{next_box, HasEmptied, MayRead, SeesNon
 ghost use Rattle.path_rule.specs.Flushes.{TookRead};
 ghost use Rattle.path_rule.specs.HandsAfter.{box_read, box_seen, first_read, left_in};
 ghost use Rattle.path_rule.specs.HandsAfter.{with_reading};
+ghost use Rattle.path_rule.specs.Layout.{numbers_end};
 ghost use Rattle.path_rule.specs.Retires.{RetiresEmptyIn};
 ghost use Rattle.path_rule.specs.Rule.{Was};
 ghost use Rattle.path_rule.specs.Switches.{FlushOldest, MayBeginRead};
@@ -194,7 +195,7 @@ impl<K: Keeper, A: Allocator> PathTable<K, A> {
     /// seen and nothing was placed in it. It has no table file.
     pub fn retire_empty(&self, member: &mut Member<K>, table: Table, memtable: u64)
         requires table { IsOf self.now.table.shared.table_id self.now.size member.old }
-        requires there { (table.0 < self.now.size.tables) × (memtable < 2 ^ 47) }
+        requires there { (table.0 < self.now.size.tables) × (memtable < numbers_end) }
         requires sees { SeesNone self.now.size.seats (hands_of member.old) table.0 memtable }
         ensures same { KeepsBoxes member.old member.new }
         ensures step { SteppedAs member.old

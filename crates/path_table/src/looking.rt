@@ -16,7 +16,7 @@ ghost use Rattle.path_rule.specs.SyncAnswers.{IsDoneBy, MayAnswer};
 ghost use Rattle.path_table.specs.Members.{view_of, part_of, IsOf, KeepsBoxes, KeepsSizes, Stepped};
 
 use crate::table::{Member, PathTable};
-use crate::words::{OLDEST_WRITE, SYNCED, SYNC_TURN};
+use crate::words::{OLDEST_WRITE, SYNC_TURN, SYNCED};
 use path_core::Keeper;
 use path_rule::{LookAt, SyncAnswer};
 use std::alloc::Allocator;

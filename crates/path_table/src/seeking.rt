@@ -7,7 +7,7 @@ ghost use Rattle.path_core.specs.declared.event.Place.TheVariants.{Count, Curren
 ghost use Rattle.path_core.specs.declared.seat.Issue.TheVariants.{Rest};
 ghost use Rattle.path_core.specs.Parts.{found_of, marker_of, stage_of};
 ghost use Rattle.path_rule.specs.Calls.{Holds};
-ghost use Rattle.path_rule.specs.Layout.{word_at};
+ghost use Rattle.path_rule.specs.Layout.{word_at, numbers_end};
 ghost use Rattle.path_rule.specs.Turns.{FoundRunning, TurnSaw, TurnOld, TurnGone, KeepsCurrent};
 ghost use Rattle.path_rule.specs.Turns.{KeepsOldest};
 ghost use Rattle.path_table.specs.Members.{view_of, part_of, hands_of, IsOf, KeepsSizes, Stepped};
@@ -58,7 +58,7 @@ impl<K: Keeper, A: Allocator> PathTable<K, A> {
         ensures same { KeepsSizes member.old member.new }
         ensures step { Stepped member.old (Look member.old.number (Current order)) result
             member.new }
-        ensures below { result < 2 ^ 47 }
+        ensures below { result < numbers_end }
         ensures turn { Holds Rest (view_of member.new)
             × TurnSaw order (part_of member.new) result }
         ensures marker { marker_of (part_of member.new) ≡ marker_of (part_of member.old) }
@@ -79,7 +79,7 @@ impl<K: Keeper, A: Allocator> PathTable<K, A> {
         ensures same { KeepsSizes member.old member.new }
         ensures step { Stepped member.old (Look member.old.number (Oldest order)) result
             member.new }
-        ensures below { result < 2 ^ 47 }
+        ensures below { result < numbers_end }
         ensures found { (found_of order (part_of member.new)).oldest ≡ Some result }
         ensures marker { marker_of (part_of member.new) ≡ marker_of (part_of member.old) }
         ensures runs { FoundRunning (part_of member.old) → FoundRunning (part_of member.new) }
@@ -99,7 +99,7 @@ impl<K: Keeper, A: Allocator> PathTable<K, A> {
     pub fn seek_count(&self, member: &mut Member<K>, order: Order, group: u64) -> u64
         requires table { IsOf self.now.table.shared.table_id self.now.size member.old }
         requires turn { Holds Rest (view_of member.old) × TurnOld order (part_of member.old) group
-            × (group < 2 ^ 47) }
+            × (group < numbers_end) }
         ensures same { KeepsSizes member.old member.new }
         ensures step { Stepped member.old (Look member.old.number (Count order group)) result
             member.new }

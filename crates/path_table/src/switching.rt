@@ -12,6 +12,7 @@ ghost use Rattle.path_core.specs.declared.state.Bound.TheVariants.{Final};
 ghost use Rattle.path_core.specs.Parts.{seat_table, stage_of};
 ghost use Rattle.path_rule.specs.Switched.{KeepsMemtables};
 ghost use Rattle.path_rule.specs.Issued.{issued_in, opened_in};
+ghost use Rattle.path_rule.specs.Layout.{numbers_end};
 ghost use Rattle.path_rule.specs.Switches.{FlushCleared, FlushNewest, FlushOldest, FlushRaised};
 ghost use Rattle.path_table.specs.Members.{view_of, part_of, IsOf, KeepsBoxes, Stepped};
 
@@ -30,7 +31,7 @@ impl<K: Keeper, A: Allocator> PathTable<K, A> {
         ensures same { KeepsBoxes member.old member.new }
         ensures step { Stepped member.old (Look member.old.number (Newest table)) result
             member.new }
-        ensures below { result < 2 ^ 47 }
+        ensures below { result < numbers_end }
         ensures turn { IsTrue (is_some (seat_table (part_of member.old) table.0).flush)
             → FlushNewest table.0 (part_of member.new) result }
         ensures keeps { (n : ℕ) → FlushOldest table.0 (part_of member.old) n
@@ -50,7 +51,7 @@ impl<K: Keeper, A: Allocator> PathTable<K, A> {
         requires there { table.0 < self.now.size.tables }
         requires turn { (n : ℕ) × FlushNewest table.0 (part_of member.old) n
             × FlushOldest table.0 (part_of member.old) n × (memtable ≡ suc n)
-            × (memtable ≤ 2 ^ 47) }
+            × (memtable ≤ numbers_end) }
         ensures same { KeepsBoxes member.old member.new }
         ensures step { Stepped member.old (Switch member.old.number table memtable Clear) 0
             member.new }
@@ -95,7 +96,7 @@ impl<K: Keeper, A: Allocator> PathTable<K, A> {
     /// Marks the memtable below the one that was just made: it is raising from now on.
     pub fn mark_memtable(&self, member: &mut Member<K>, table: Table, memtable: u64)
         requires table { IsOf self.now.table.shared.table_id self.now.size member.old }
-        requires there { (table.0 < self.now.size.tables) × (memtable < 2 ^ 47) }
+        requires there { (table.0 < self.now.size.tables) × (memtable < numbers_end) }
         requires stage { stage_of (part_of member.old) table.0 ≡ Some (Begun (suc memtable)) }
         ensures same { KeepsBoxes member.old member.new }
         ensures step { Stepped member.old (Switch member.old.number table memtable Mark)
@@ -135,7 +136,7 @@ impl<K: Keeper, A: Allocator> PathTable<K, A> {
     /// Raises the marked memtable to the log key that was found since.
     pub fn raise_marked(&self, member: &mut Member<K>, table: Table, memtable: u64, key: Key)
         requires table { IsOf self.now.table.shared.table_id self.now.size member.old }
-        requires there { (table.0 < self.now.size.tables) × (memtable < 2 ^ 47)
+        requires there { (table.0 < self.now.size.tables) × (memtable < numbers_end)
             × (key.0 < 2 ^ 62) }
         requires stage { (raised : Bool) × (stage_of (part_of member.old) table.0 ≡ Some
             (MarkedStage (record { memtable = memtable; key = Some key.0; raised = raised }))) }
@@ -160,7 +161,7 @@ impl<K: Keeper, A: Allocator> PathTable<K, A> {
     /// it goes into later memtables.
     pub fn finalise_memtable(&self, member: &mut Member<K>, table: Table, memtable: u64) -> Key
         requires table { IsOf self.now.table.shared.table_id self.now.size member.old }
-        requires there { (table.0 < self.now.size.tables) × (memtable < 2 ^ 47) }
+        requires there { (table.0 < self.now.size.tables) × (memtable < numbers_end) }
         requires stage { (key : Option ℕ) × (stage_of (part_of member.old) table.0 ≡ Some
             (MarkedStage (record { memtable = memtable; key = key; raised = true }))) }
         ensures same { KeepsBoxes member.old member.new }

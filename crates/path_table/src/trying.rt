@@ -1,5 +1,5 @@
 //! Calls that make one attempt and wait for nobody.
-ghost use Rattle.std.specs.Prelude.{◌^◌, ◌≡◌, ℕ, ◌<◌, ◌≤◌, [], Some, None, MatchResult, length};
+ghost use Rattle.std.specs.Prelude.{◌≡◌, ℕ, ◌<◌, ◌≤◌, [], Some, None, MatchResult, length};
 ghost use Rattle.op_core.specs.declared.count.Order.TheVariants.{Write};
 ghost use Rattle.path_core.specs.declared.event.Carried.TheVariants.{Nothing};
 ghost use Rattle.path_core.specs.declared.event.Event.TheVariants.{Close};
@@ -8,6 +8,7 @@ ghost use Rattle.path_core.specs.Parts.{HoldsNoTurn, IsIdle};
 ghost use Rattle.path_rule.specs.Issued.{issued_in, opened_in};
 ghost use Rattle.path_rule.specs.Rounds.{WroteBelow};
 ghost use Rattle.path_rule.specs.Calls.{Started, Refused, acts, FoundSince};
+ghost use Rattle.path_rule.specs.Layout.{numbers_end};
 ghost use Rattle.path_table.specs.Members.{view_of, IsOf, IsSame, Stepped};
 
 use crate::table::{Member, PathTable};
@@ -78,7 +79,7 @@ impl<K: Keeper, A: Allocator> PathTable<K, A> {
         requires { IsOf self.now.table.shared.table_id self.now.size seat.member }
         ensures { MatchResult result
             (λ b. (b.member.seat.table_id ≡ seat.member.seat.table_id)
-            × (b.member.number ≡ seat.member.number) × (b.group < 2 ^ 47)
+            × (b.member.number ≡ seat.member.number) × (b.group < numbers_end)
             × Started (view_of seat.member) seat.member.number Write b.group (view_of b.member))
             (λ r. (r.0.member.seat.table_id ≡ seat.member.seat.table_id)
             × (r.0.member.number ≡ seat.member.number)
@@ -109,7 +110,7 @@ impl<K: Keeper, A: Allocator> PathTable<K, A> {
     /// Leaves the write order, before a claim.
     pub fn stop(&self, seat: Begun<K>) -> PathSeat<K>
         requires table { IsOf self.now.table.shared.table_id self.now.size seat.member }
-        requires group { seat.group < 2 ^ 47 }
+        requires group { seat.group < numbers_end }
         ensures same { IsSame seat.member result.member }
         ensures step { (n : ℕ) × Stepped seat.member
             (Close seat.member.number Write seat.group Nothing) n result.member }

@@ -1,6 +1,6 @@
 //! The steps of a barrier of the write order, each with what its holder knows since: how far the
 //! issue has got (`Holds`), and the current group (`TurnSaw`).
-ghost use Rattle.std.specs.Prelude.{◌*◌, ◌^◌, ◌≡◌, ℕ, suc, ◌+◌, ◌<◌, ◌≤◌, Some};
+ghost use Rattle.std.specs.Prelude.{◌*◌, ◌≡◌, ℕ, suc, ◌+◌, ◌<◌, ◌≤◌, Some};
 ghost use Rattle.op_core.specs.declared.count.Order.TheVariants.{Write};
 ghost use Rattle.path_core.specs.declared.event.Event.TheVariants.{OpenGroup, MoveCurrent, Expire};
 ghost use Rattle.path_core.specs.declared.event.Event.TheVariants.{Advance};
@@ -11,6 +11,7 @@ ghost use Rattle.path_core.specs.Holders.{HasWaiting};
 ghost use Rattle.path_core.specs.Parts.{marker_of, stage_of};
 ghost use Rattle.path_rule.specs.Calls.{Holds};
 ghost use Rattle.path_rule.specs.Issued.{issued_in, most_issued};
+ghost use Rattle.path_rule.specs.Layout.{numbers_end};
 ghost use Rattle.path_rule.specs.Rule.{Was};
 ghost use Rattle.path_rule.specs.Turns.{FoundRunning, TurnSaw, TurnOld, TurnGone, KeepsCurrent};
 ghost use Rattle.path_table.specs.Members.{view_of, part_of, hands_of, IsOf, KeepsSizes, Stepped};
@@ -29,7 +30,7 @@ impl<K: Keeper, A: Allocator> PathTable<K, A> {
         requires turn { Holds Rest (view_of member.old)
             × TurnSaw Write (part_of member.old) current × (group ≡ suc current)
             × (issued_in (view_of member.old).trail < most_issued) }
-        requires small { current < 2 ^ 47 }
+        requires small { current < numbers_end }
         requires waiting { HasWaiting (part_of member.old) }
         requires free { (oldest : ℕ) × TurnOld Write (part_of member.old) oldest
             × (group ≤ oldest + 31) }
@@ -78,7 +79,7 @@ impl<K: Keeper, A: Allocator> PathTable<K, A> {
         requires table { IsOf self.now.table.shared.table_id self.now.size member.old }
         requires turn { Holds (Moved Write) (view_of member.old)
             × TurnSaw Write (part_of member.old) current × (suc group ≡ current)
-            × (group < 2 ^ 47) }
+            × (group < numbers_end) }
         ensures same { KeepsSizes member.old member.new }
         ensures step { Stepped member.old (Expire member.old.number Write group) result
             member.new }

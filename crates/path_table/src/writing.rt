@@ -6,6 +6,7 @@ ghost use Rattle.path_core.specs.declared.event.Carried.TheVariants.{Nothing};
 ghost use Rattle.path_core.specs.declared.event.Event.TheVariants.{Look, Register, Close};
 ghost use Rattle.path_core.specs.declared.event.Place.TheVariants.{Count, Current};
 ghost use Rattle.path_core.specs.Parts.{HoldsNoTurn, IsIdle, found_of};
+ghost use Rattle.path_rule.specs.Layout.{numbers_end};
 ghost use Rattle.path_rule.specs.Turns.{Sighted};
 ghost use Rattle.path_table.specs.Members.{view_of, part_of, IsOf, KeepsBoxes, Stepped};
 
@@ -22,7 +23,7 @@ impl<K: Keeper, A: Allocator> PathTable<K, A> {
         ensures same { KeepsBoxes member.old member.new }
         ensures step { Stepped member.old (Look member.old.number (Current Write)) result
             member.new }
-        ensures below { result < 2 ^ 47 }
+        ensures below { result < numbers_end }
     {
         self.table
             .shared
@@ -34,7 +35,7 @@ impl<K: Keeper, A: Allocator> PathTable<K, A> {
     /// as the oldest one.
     pub fn look_writers(&self, member: &mut Member<K>, group: u64) -> u64
         requires table { IsOf self.now.table.shared.table_id self.now.size member.old }
-        requires group { (group < 2 ^ 47) × Sighted (view_of member.old) (Count Write group) }
+        requires group { (group < numbers_end) × Sighted (view_of member.old) (Count Write group) }
         ensures same { KeepsBoxes member.old member.new }
         ensures step { Stepped member.old (Look member.old.number (Count Write (number_in result)))
             result
@@ -50,7 +51,7 @@ impl<K: Keeper, A: Allocator> PathTable<K, A> {
     /// another, this was a look.
     pub fn register(&self, member: &mut Member<K>, group: u64, looked: u64) -> u64
         requires table { IsOf self.now.table.shared.table_id self.now.size member.old }
-        requires group { (group < 2 ^ 47)
+        requires group { (group < numbers_end)
             × ((found_of Write (part_of member.old)).current ≡ Some group)
             × (number_in looked ≡ group) × (looked < 2 ^ 63) }
         requires idle { IsIdle (part_of member.old) × HoldsNoTurn (part_of member.old) }
@@ -72,7 +73,7 @@ impl<K: Keeper, A: Allocator> PathTable<K, A> {
     /// Leaves the write order, before a claim. Returns the count that it found.
     pub fn leave(&self, member: &mut Member<K>, group: u64) -> u64
         requires table { IsOf self.now.table.shared.table_id self.now.size member.old }
-        requires group { (group < 2 ^ 47) × ((part_of member.old).write ≡ Some group) }
+        requires group { (group < numbers_end) × ((part_of member.old).write ≡ Some group) }
         requires unclaimed { ((part_of member.old).append ≡ None)
             × ((part_of member.old).claim ≡ None) }
         ensures same { KeepsBoxes member.old member.new }

@@ -1,9 +1,10 @@
 //! A write of table 0 that has begun goes on behind a flush's barrier, by single tries: it is
 //! logged above the bound of the memtable that is flushed, which refuses it, and the next one takes
 //! it.
-ghost use Rattle.std.specs.Prelude.{◌^◌, ◌≡◌, ◌≢◌, ℕ, ◌+◌, ◌<◌, Some, IfSome, IsTrue};
+ghost use Rattle.std.specs.Prelude.{◌≡◌, ◌≢◌, ℕ, ◌+◌, ◌<◌, Some, IfSome, IsTrue};
 ghost use Rattle.clog_mutation.specs.declared.mutation.Mutation.{Mutation};
 ghost use Rattle.path_core.specs.Parts.{seat_table, touches};
+ghost use Rattle.path_rule.specs.Layout.{numbers_end};
 ghost use Rattle.path_table.specs.Members.{part_of, IsOf};
 ghost use Rattle.write_path.specs.Applies.{HoldsUpdates, IsUnappliedFrom};
 ghost use Rattle.write_path.specs.Ends.{IsSameWrite, IsUntriedFrom};
@@ -36,7 +37,7 @@ fn ask_two<K: Keeper>(
         ≡ Some (r.1 + 1)) }
     ensures others { IfSome result (λ r. (t : ℕ) → t ≢ 0
         → seat_table (part_of r.0.member) t ≡ seat_table (part_of seat.member) t) }
-    ensures few { IfSome result (λ r. r.1 + 1 < 2 ^ 47) }
+    ensures few { IfSome result (λ r. r.1 + 1 < numbers_end) }
 {
     let mut seat = seat;
     let first = path.oldest(&mut seat, Table(0));
@@ -74,7 +75,7 @@ fn end_above<R: Wait, K: Keeper>(
     requires table { IsOf path.now.table.table.shared.table_id path.now.table.size seat.member }
     requires beside { IsOf path.now.table.table.shared.table_id path.now.table.size beside.member }
     requires there { path.now.table.size.tables ≡ 16 }
-    requires group { seat.writing < 2 ^ 47 }
+    requires group { seat.writing < numbers_end }
     requires untried { IsUntriedFrom 0 seat }
     requires holds { HoldsUpdates seat rest }
     requires unapplied { IsUnappliedFrom 0 seat }
@@ -137,7 +138,7 @@ pub(crate) fn write_above<R: Wait, K: Keeper>(
 ) -> Option<Late>
     requires table { IsOf path.now.table.table.shared.table_id path.now.table.size seat.member }
     requires beside { IsOf path.now.table.table.shared.table_id path.now.table.size beside.member }
-    requires group { (seat.writing < 2 ^ 47) × (seat.group < 2 ^ 47) }
+    requires group { (seat.writing < numbers_end) × (seat.group < numbers_end) }
     requires prepared { (m : Mutation) × IsPrepared sizes 2 m write }
     requires sized { (sizes.tables ≡ 16) × (sizes.tables ≡ path.now.table.size.tables)
         × (sizes.capacity ≡ path.now.table.size.capacity) }

@@ -1,7 +1,8 @@
 //! A write of two tables, call by call.
-ghost use Rattle.std.specs.Prelude.{◌^◌, ◌≡◌, suc, ◌<◌, IfSome};
+ghost use Rattle.std.specs.Prelude.{◌≡◌, suc, ◌<◌, IfSome};
 ghost use Rattle.clog_mutation.specs.declared.mutation.Mutation.{Mutation};
 ghost use Rattle.path_core.specs.Parts.{touches};
+ghost use Rattle.path_rule.specs.Layout.{numbers_end};
 ghost use Rattle.path_table.specs.Members.{IsOf};
 ghost use Rattle.write_path.specs.Applies.{HoldsUpdates, IsAppliedBelow, IsUnappliedFrom};
 ghost use Rattle.write_path.specs.Ends.{IsUntriedFrom, IsWriteStill};
@@ -74,7 +75,7 @@ fn place_and_end<K: Keeper>(
     rest: Prepared,
 ) -> Option<(PathSeat<K>, u64, u64)>
     requires table { IsOf path.now.table.table.shared.table_id path.now.table.size seat.member }
-    requires group { seat.writing < 2 ^ 47 }
+    requires group { seat.writing < numbers_end }
     requires tables { path.now.table.size.tables ≡ 16 }
     requires untried { IsUntriedFrom 0 seat }
     requires holds { HoldsUpdates seat rest }

@@ -1,8 +1,9 @@
 //! A flush and a write that began before the flush's barrier, in two threads: the write goes on
 //! above the flush's bound, the flush waits until it has ended, and only the next flush's file has
 //! it. Another seat's sync does not wait for the write.
-ghost use Rattle.std.specs.Prelude.{◌^◌, ◌≡◌, ◌<◌, true, IfOk};
+ghost use Rattle.std.specs.Prelude.{◌≡◌, ◌<◌, true, IfOk};
 ghost use Rattle.clog_mutation.specs.declared.mutation.Mutation.{Mutation};
+ghost use Rattle.path_rule.specs.Layout.{numbers_end};
 ghost use Rattle.path_table.specs.Members.{IsOf};
 ghost use Rattle.write_path.specs.Writes.{IsPrepared};
 
@@ -71,7 +72,7 @@ fn three_filing(
 fn begun<K: Keeper>(path: &WritePath<K, Global>, seat: PathSeat<K>) -> Result<Appending<K>, Fail>
     requires { IsOf path.now.table.table.shared.table_id path.now.table.size seat.member }
     ensures { IfOk result (λ a. IsOf path.now.table.table.shared.table_id path.now.table.size
-        a.member × (a.writing < 2 ^ 47) × (a.group < 2 ^ 47)) }
+        a.member × (a.writing < numbers_end) × (a.group < numbers_end)) }
 {
     let Ok(begun) = path.try_start(seat) else {
         return Err(Fail::new("it did not start"));
@@ -106,7 +107,7 @@ fn flush_beside_write<R: Threads + Wait + Sync>(
         ||
             requires { IsOf path.now.table.table.shared.table_id path.now.table.size one.member
                 × IsOf path.now.table.table.shared.table_id path.now.table.size two.member
-                × (one.writing < 2 ^ 47) × (one.group < 2 ^ 47)
+                × (one.writing < numbers_end) × (one.group < numbers_end)
                 × ((m : Mutation) × IsPrepared sizes 2 m write)
                 × (sizes.tables ≡ 16) × (sizes.tables ≡ path.now.table.size.tables)
                 × (sizes.capacity ≡ path.now.table.size.capacity) }

@@ -3,6 +3,7 @@ ghost use Rattle.op_core.specs.CountWords.{number_in};
 ghost use Rattle.std.specs.Prelude.{◌≡◌, ◌<◌, ◌^◌, Some, IfOk};
 ghost use Rattle.op_core.specs.declared.count.Order.TheVariants.{Write};
 ghost use Rattle.path_core.specs.Parts.{found_of};
+ghost use Rattle.path_rule.specs.Layout.{numbers_end};
 ghost use Rattle.path_table.specs.Members.{part_of, IsOf};
 
 use crate::barriers::{opened, waiting};
@@ -17,7 +18,7 @@ use std::test::*;
 fn look_twice<K: Keeper>(table: &PathTable<K, Global>, seat: PathSeat<K>) -> (PathSeat<K>, u64, u64)
     requires { IsOf table.now.table.shared.table_id table.now.size seat.member }
     ensures same { IsOf table.now.table.shared.table_id table.now.size result.0.member }
-    ensures group { (result.1 < 2 ^ 47)
+    ensures group { (result.1 < numbers_end)
         × ((found_of Write (part_of result.0.member)).current ≡ Some result.1) }
 {
     let PathSeat { mut member } = seat;
@@ -69,7 +70,7 @@ fn refuse_register<K: Keeper>(
     looked: u64,
 ) -> Result<(PathSeat<K>, u64), Fail>
     requires table { IsOf table.now.table.shared.table_id table.now.size seat.member }
-    requires group { (group < 2 ^ 47) × (number_in looked ≡ group) × (looked < 2 ^ 63)
+    requires group { (group < numbers_end) × (number_in looked ≡ group) × (looked < 2 ^ 63)
         × ((found_of Write (part_of seat.member)).current ≡ Some group) }
     ensures { IfOk result (λ r. IsOf table.now.table.shared.table_id table.now.size r.0.member) }
 {

@@ -1,5 +1,5 @@
 -- How a write ends, and what it adds to its seat's list.
-use Rattle.std.specs.Prelude.{◌^◌, ◌≡◌, ℕ, ◌+◌, ◌<◌, ◌≤◌, nat_le, if◌then◌else◌, List, [], ◌∷◌}
+use Rattle.std.specs.Prelude.{◌≡◌, ℕ, ◌+◌, ◌<◌, ◌≤◌, nat_le, if◌then◌else◌, List, [], ◌∷◌}
 use Rattle.std.specs.Prelude.{◌++◌, map, Some, None}
 use Rattle.atomic_table.specs.Seated.{TableId}
 use Rattle.clog_base.specs.declared.cell.Table.{Table}
@@ -25,6 +25,7 @@ use Rattle.path_rule.specs.declared.view.PathSize.{PathSize}
 use Rattle.path_rule.specs.declared.view.View.{View}
 use Rattle.path_rule.specs.Applying.{AreApplied}
 use Rattle.path_rule.specs.Calls.{Did}
+use Rattle.path_rule.specs.Layout.{numbers_end}
 use Rattle.path_rule.specs.Rule.{event_of}
 use Rattle.path_table.specs.declared.table.Member.{Member}
 use Rattle.path_table.specs.Members.{part_of}
@@ -106,7 +107,7 @@ abbrev pub HasTried : ℕ → ℕ → Accept → SeatTable → Type 0
 HasTried end m Yes after = after.place ≡ Some m
 HasTried end m (Later key) after =
     (after.bound ≡ Some (record { memtable = m; bound = Final key })) × (key.0 < end)
-    × (after.trying ≡ Some (m + 1)) × (m + 1 < 2 ^ 47)
+    × (after.trying ≡ Some (m + 1)) × (m + 1 < numbers_end)
 
 -- what a bound that is not raising answers
 abbrev pub answered : ℕ → BoundOf → Accept

@@ -6,6 +6,7 @@ ghost use Rattle.path_core.specs.declared.state.Bound.TheVariants.{Live};
 ghost use Rattle.path_core.specs.LawfulSeats.{BoundStays};
 ghost use Rattle.path_core.specs.Parts.{seat_table};
 ghost use Rattle.path_rule.specs.Accepted.{RaisesBound, TriesBound};
+ghost use Rattle.path_rule.specs.Layout.{numbers_end};
 ghost use Rattle.path_table.specs.Members.{part_of, IsOf};
 ghost use Rattle.write_path.specs.Ends.{answered, HasTried, IsSameWrite};
 
@@ -46,7 +47,7 @@ impl<K: Keeper, A: Allocator> WritePath<K, A> {
         requires table { IsOf self.now.table.table.shared.table_id self.now.table.size
             seat.old.member }
         requires there { table.0 < self.now.table.size.tables }
-        requires tried { (memtable < 2 ^ 47)
+        requires tried { (memtable < numbers_end)
             × ((seat_table (part_of seat.old.member) table.0).trying ≡ Some memtable) }
         ensures same { IsSameWrite self.now.table.table.shared.table_id self.now.table.size
             seat.old seat.new }
@@ -66,7 +67,7 @@ impl<K: Keeper, A: Allocator> WritePath<K, A> {
         requires table { IsOf self.now.table.table.shared.table_id self.now.table.size
             seat.old.member }
         requires there { (table.0 < self.now.table.size.tables) × (seat.old.end.0 < 2 ^ 62) }
-        requires tried { (memtable < 2 ^ 47)
+        requires tried { (memtable < numbers_end)
             × ((seat_table (part_of seat.old.member) table.0).trying ≡ Some memtable) }
         requires found { (b : BoundKind) × ((seat_table (part_of seat.old.member) table.0).bound
             ≡ Some (record { memtable = memtable; bound = b })) × (b ≢ Live) }
@@ -87,7 +88,7 @@ impl<K: Keeper, A: Allocator> WritePath<K, A> {
         requires table { IsOf self.now.table.table.shared.table_id self.now.table.size
             seat.old.member }
         requires there { (table.0 < self.now.table.size.tables) × (seat.old.end.0 < 2 ^ 62) }
-        requires tried { (memtable < 2 ^ 47)
+        requires tried { (memtable < numbers_end)
             × ((seat_table (part_of seat.old.member) table.0).trying ≡ Some memtable) }
         requires found { (b : BoundKind) × ((seat_table (part_of seat.old.member) table.0).bound
             ≡ Some (record { memtable = memtable; bound = b })) × (b ≢ Live) }
@@ -112,7 +113,7 @@ impl<K: Keeper, A: Allocator> WritePath<K, A> {
         requires table { IsOf self.now.table.table.shared.table_id self.now.table.size
             seat.old.member }
         requires there { table.0 < self.now.table.size.tables }
-        requires tried { (memtable < 2 ^ 47)
+        requires tried { (memtable < numbers_end)
             × ((seat_table (part_of seat.old.member) table.0).trying ≡ Some memtable) }
         ensures same { IsSameWrite self.now.table.table.shared.table_id self.now.table.size
             seat.old seat.new }

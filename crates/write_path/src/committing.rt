@@ -1,6 +1,7 @@
 //! A write up to its claim, by calls that wait: each tries until one try is not refused by what
 //! other seats did. The seat's list is as it was.
-ghost use Rattle.std.specs.Prelude.{◌^◌, ◌≡◌, ◌+◌, ◌/◌, ◌<◌, ◌≤◌, length, IfOk, MatchResult};
+ghost use Rattle.std.specs.Prelude.{◌≡◌, ◌+◌, ◌/◌, ◌<◌, ◌≤◌, length, IfOk, MatchResult};
+ghost use Rattle.path_rule.specs.Layout.{numbers_end};
 ghost use Rattle.path_table.specs.Members.{view_of, IsOf};
 ghost use Rattle.write_path.specs.Commits.{HasNoRoom, KeepsMemtables, WritesEndBelow};
 
@@ -19,7 +20,7 @@ impl<K: Keeper, A: Allocator> WritePath<K, A> {
     pub fn start<R: Wait>(&self, rt: &R, seat: PathSeat<K>) -> Begun<K>
         requires { IsOf self.now.table.table.shared.table_id self.now.table.size seat.member }
         ensures { KeepsMemtables self.now.table.table.shared.table_id self.now.table.size
-            seat.member result.member × (result.group < 2 ^ 47) }
+            seat.member result.member × (result.group < numbers_end) }
     {
         let mut seat = seat;
         for _ in rt.forever() {
@@ -38,7 +39,7 @@ impl<K: Keeper, A: Allocator> WritePath<K, A> {
     pub fn append<R: Wait>(&self, rt: &R, seat: Begun<K>) -> Appending<K>
         requires { IsOf self.now.table.table.shared.table_id self.now.table.size seat.member }
         ensures { KeepsMemtables self.now.table.table.shared.table_id self.now.table.size
-            seat.member result.member × (result.writing ≡ seat.group) × (result.group < 2 ^ 47) }
+            seat.member result.member × (result.writing ≡ seat.group) × (result.group < numbers_end) }
     {
         let mut seat = seat;
         for _ in rt.forever() {

@@ -1,11 +1,12 @@
 //! A write deposits its entry, by one try that is never refused and takes no memory.
-ghost use Rattle.std.specs.Prelude.{◌^◌, ◌≡◌, ℕ, ◌+◌, ◌<◌};
+ghost use Rattle.std.specs.Prelude.{◌≡◌, ℕ, ◌+◌, ◌<◌};
 ghost use Rattle.clog_base.specs.declared.sizes.Sizes.{Sizes};
 ghost use Rattle.clog_mutation.specs.declared.mutation.Mutation.{Mutation};
 ghost use Rattle.op_core.specs.declared.count.Order.TheVariants.{Append};
 ghost use Rattle.path_core.specs.declared.event.Carried.TheVariants.{Deposit};
 ghost use Rattle.path_core.specs.declared.event.Event.TheVariants.{Close};
 ghost use Rattle.path_core.specs.declared.note.EntryNote.{EntryNote};
+ghost use Rattle.path_rule.specs.Layout.{numbers_end};
 ghost use Rattle.path_table.specs.Members.{view_of, IsOf, Stepped};
 ghost use Rattle.write_path.specs.Applies.{HoldsUpdates, IsUnappliedFrom};
 ghost use Rattle.write_path.specs.Ends.{IsListed, IsUntriedFrom};
@@ -26,7 +27,7 @@ impl<K: Keeper, A: Allocator> WritePath<K, A> {
     /// comes back has its updates still, which say the range too.
     pub fn deposit(&self, seat: Claimed<K>, prepared: Prepared) -> (Deposited<K>, Prepared)
         requires table { IsOf self.now.table.table.shared.table_id self.now.table.size seat.member }
-        requires group { seat.group < 2 ^ 47 }
+        requires group { seat.group < numbers_end }
         requires prepared { (sizes : Sizes) × (line : ℕ) × (m : Mutation)
             × IsPrepared sizes line m prepared × (seat.start.0 + entry_size m ≡ seat.end.0)
             × (sizes.tables ≡ self.now.table.size.tables) }

@@ -2,7 +2,7 @@
 //! refused. At each of its tables it tries the oldest live memtable, and after one that is final
 //! below its end the next, until one takes it, and puts its updates there; then it leaves the write
 //! order, and its seat is idle again.
-ghost use Rattle.std.specs.Prelude.{◌^◌, ◌≡◌, ◌≢◌, ℕ, suc, ◌<◌, List, IsTrue, Some, None};
+ghost use Rattle.std.specs.Prelude.{◌≡◌, ◌≢◌, ℕ, suc, ◌<◌, List, IsTrue, Some, None};
 ghost use Rattle.clog_base.specs.declared.cell.Table.{Table as TableOf};
 ghost use Rattle.op_core.specs.declared.count.Order.TheVariants.{Write};
 ghost use Rattle.path_core.specs.declared.event.Carried.TheVariants.{Applied};
@@ -11,6 +11,7 @@ ghost use Rattle.path_core.specs.declared.event.Event.TheVariants.{Look, Close};
 ghost use Rattle.path_core.specs.declared.event.Place.TheVariants.{CursorWord};
 ghost use Rattle.path_core.specs.Allowed.{IsItsPlaces};
 ghost use Rattle.path_core.specs.Parts.{seat_table, touches};
+ghost use Rattle.path_rule.specs.Layout.{numbers_end};
 ghost use Rattle.path_table.specs.Members.{view_of, part_of, IsOf, Stepped};
 ghost use Rattle.write_path.specs.Applies.{HoldsUpdates, IsAppliedBelow, IsUnappliedFrom};
 ghost use Rattle.path_flush.specs.OwnWrites.{writes_of};
@@ -38,7 +39,7 @@ impl<K: Keeper, A: Allocator> WritePath<K, A> {
             seat.old seat.new }
         ensures step { Stepped seat.old.member
             (Look seat.old.member.number (CursorWord (OldestLive table))) result seat.new.member }
-        ensures below { result < 2 ^ 47 }
+        ensures below { result < numbers_end }
         ensures tries { IsTrue (touches seat.old.tables table.0)
             → (seat_table (part_of seat.old.member) table.0).trying ≡ None
             → (seat_table (part_of seat.new.member) table.0).trying ≡ Some result }
@@ -52,7 +53,7 @@ impl<K: Keeper, A: Allocator> WritePath<K, A> {
     /// updates have been put. The seat is idle again.
     pub fn finish(&self, seat: Deposited<K>) -> PathSeat<K>
         requires table { IsOf self.now.table.table.shared.table_id self.now.table.size seat.member }
-        requires group { seat.writing < 2 ^ 47 }
+        requires group { seat.writing < numbers_end }
         requires applied { IsAppliedBelow self.now.table.size.tables seat }
         ensures same { Stays self.now.table.table.shared.table_id self.now.table.size seat.member
             result.member }
@@ -78,7 +79,7 @@ impl<K: Keeper, A: Allocator> WritePath<K, A> {
     fn place_from(&self, seat: Deposited<K>, table: Table, first: u64) -> (Deposited<K>, u64)
         requires table { IsOf self.now.table.table.shared.table_id self.now.table.size seat.member }
         requires there { table.0 < self.now.table.size.tables }
-        requires tried { (first < 2 ^ 47)
+        requires tried { (first < numbers_end)
             × ((seat_table (part_of seat.member) table.0).trying ≡ Some first) }
         ensures same { IsSameWrite self.now.table.table.shared.table_id self.now.table.size
             seat result.0 }
@@ -137,7 +138,7 @@ impl<K: Keeper, A: Allocator> WritePath<K, A> {
         gate: &G,
     ) -> PathSeat<K>
         requires table { IsOf self.now.table.table.shared.table_id self.now.table.size seat.member }
-        requires group { seat.writing < 2 ^ 47 }
+        requires group { seat.writing < numbers_end }
         requires untried { IsUntriedFrom 0 seat }
         requires holds { HoldsUpdates seat prepared }
         requires unapplied { IsUnappliedFrom 0 seat }

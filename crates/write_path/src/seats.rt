@@ -13,6 +13,7 @@ ghost use Rattle.path_rule.specs.declared.slot.Slot.TheVariants.{Notes};
 ghost use Rattle.path_rule.specs.Boxes.{box_of};
 ghost use Rattle.path_rule.specs.Calls.{Started};
 ghost use Rattle.path_rule.specs.Issued.{issued_in, opened_in};
+ghost use Rattle.path_rule.specs.Layout.{numbers_end};
 ghost use Rattle.path_table.specs.Members.{view_of, IsOf, Stepped};
 ghost use Rattle.path_table.specs.declared.table.Opener.{Opener};
 ghost use Rattle.write_path.specs.declared.resting.Resting.{Resting};
@@ -69,7 +70,7 @@ impl<K: Keeper, A: Allocator> WritePath<K, A> {
         requires { IsOf self.now.table.table.shared.table_id self.now.table.size seat.member }
         ensures same { MatchResult result
             (λ b. Stays self.now.table.table.shared.table_id self.now.table.size seat.member
-            b.member × (b.group < 2 ^ 47))
+            b.member × (b.group < numbers_end))
             (λ r. Stays self.now.table.table.shared.table_id self.now.table.size seat.member
             r.0.member) }
         ensures step { MatchResult result
@@ -88,7 +89,7 @@ impl<K: Keeper, A: Allocator> WritePath<K, A> {
         requires { IsOf self.now.table.table.shared.table_id self.now.table.size seat.member }
         ensures same { MatchResult result
             (λ a. Stays self.now.table.table.shared.table_id self.now.table.size seat.member
-            a.member × (a.writing ≡ seat.group) × (a.group < 2 ^ 47))
+            a.member × (a.writing ≡ seat.group) × (a.group < numbers_end))
             (λ r. Stays self.now.table.table.shared.table_id self.now.table.size seat.member
             r.0.member × (r.0.group ≡ seat.group)) }
         ensures step { MatchResult result
@@ -136,7 +137,7 @@ impl<K: Keeper, A: Allocator> WritePath<K, A> {
     /// Leaves the append order, before a claim. The box goes home.
     pub fn stop_append(&self, seat: Appending<K>) -> Begun<K>
         requires table { IsOf self.now.table.table.shared.table_id self.now.table.size seat.member }
-        requires group { seat.group < 2 ^ 47 }
+        requires group { seat.group < numbers_end }
         ensures same { Stays self.now.table.table.shared.table_id self.now.table.size seat.member
             result.member × (result.group ≡ seat.writing) }
         ensures step { (n : ℕ) × Stepped seat.member
@@ -157,7 +158,7 @@ impl<K: Keeper, A: Allocator> WritePath<K, A> {
     /// Leaves the write order, before a claim.
     pub fn stop(&self, seat: Begun<K>) -> PathSeat<K>
         requires table { IsOf self.now.table.table.shared.table_id self.now.table.size seat.member }
-        requires group { seat.group < 2 ^ 47 }
+        requires group { seat.group < numbers_end }
         ensures same { Stays self.now.table.table.shared.table_id self.now.table.size seat.member
             result.member }
         ensures step { (n : ℕ) × Stepped seat.member

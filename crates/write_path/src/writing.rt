@@ -1,7 +1,8 @@
 //! A write from its start to its end, by calls that wait.
-ghost use Rattle.std.specs.Prelude.{◌^◌, ◌≡◌, ℕ, ◌+◌, ◌<◌};
+ghost use Rattle.std.specs.Prelude.{◌≡◌, ℕ, ◌+◌, ◌<◌};
 ghost use Rattle.clog_base.specs.declared.sizes.Sizes.{Sizes};
 ghost use Rattle.clog_mutation.specs.declared.mutation.Mutation.{Mutation};
+ghost use Rattle.path_rule.specs.Layout.{numbers_end};
 ghost use Rattle.path_table.specs.Members.{view_of, IsOf};
 ghost use Rattle.write_path.specs.Commits.{HasNoRoom, IsLogged, IsWritten, IssuesNone};
 ghost use Rattle.write_path.specs.Commits.{KeepsMemtables, WritesEndBelow};
@@ -37,7 +38,7 @@ impl<K: Keeper, A: Allocator> WritePath<K, A> {
     // A claimed write is logged, placed and ended: the seat's list is the old one and this write.
     fn log_claimed<G: Gate>(&self, seat: Claimed<K>, prepared: Prepared, gate: &G) -> PathSeat<K>
         requires table { IsOf self.now.table.table.shared.table_id self.now.table.size seat.member }
-        requires groups { (seat.group < 2 ^ 47) × (seat.writing < 2 ^ 47) }
+        requires groups { (seat.group < numbers_end) × (seat.writing < numbers_end) }
         requires prepared { (sizes : Sizes) × (line : ℕ) × (m : Mutation)
             × IsPrepared sizes line m prepared × (seat.start.0 + entry_size m ≡ seat.end.0)
             × (sizes.tables ≡ self.now.table.size.tables) }
@@ -59,7 +60,7 @@ impl<K: Keeper, A: Allocator> WritePath<K, A> {
     // Leaves both orders, before a claim.
     fn leave(&self, seat: Appending<K>) -> PathSeat<K>
         requires table { IsOf self.now.table.table.shared.table_id self.now.table.size seat.member }
-        requires groups { (seat.group < 2 ^ 47) × (seat.writing < 2 ^ 47) }
+        requires groups { (seat.group < numbers_end) × (seat.writing < numbers_end) }
         ensures same { KeepsMemtables self.now.table.table.shared.table_id self.now.table.size
             seat.member result.member }
         ensures room { (bytes since key : ℕ)
