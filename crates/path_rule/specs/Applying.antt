@@ -97,7 +97,7 @@ module _ {K : Type 0} where
   -- At a look at the newest memtable of a table the seat's box of its place there came.
   abbrev pub MemtableTaken : Step (Slot K) → Me (Slot K) View → ℕ → Me (Slot K) View → Type 0
   MemtableTaken st m n m' = (w k : ℕ) (t : Table) → m.0.role ≡ Steps w → t.0 < 16
-      → st.word ≡ 8 + 4 * t.0 → (seat_table m.0.part t.0).place ≡ Some k
+      → st.word ≡ 64 + 4 * t.0 → (seat_table m.0.part t.0).place ≡ Some k
       → ((held : List EntryNote) × MadeAs w (Look w (Newest t)) n
       (with_held (memtable_box m.0.size.seats w t.0 k) held m.0.hands) m.0 m'.0)
       × TookHeld (memtable_box m.0.size.seats w t.0 k) m m'
@@ -105,7 +105,7 @@ module _ {K : Type 0} where
   -- at such a look it went home, with the note that the seat had put into it
   abbrev pub MemtableGiven : Step (Slot K) → Me (Slot K) View → ℕ → Me (Slot K) View → Type 0
   MemtableGiven st m n m' = (w k : ℕ) (t : Table) (note : EntryNote) → m.0.role ≡ Steps w
-      → t.0 < 16 → st.word ≡ 8 + 4 * t.0 → (seat_table m.0.part t.0).place ≡ Some k
+      → t.0 < 16 → st.word ≡ 64 + 4 * t.0 → (seat_table m.0.part t.0).place ≡ Some k
       → m.1 ≡ (memtable_box m.0.size.seats w t.0 k, Notes (m.0.hands.held ++ note ∷ []))
       ∷ rest m.1
       → MadeAs w (Look w (Newest t)) n (with_applied (put_there t k note) m.0.hands) m.0 m'.0

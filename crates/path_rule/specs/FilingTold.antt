@@ -196,7 +196,7 @@ module _ {K : Type 0} (shows : K → Lasting) where
   -- which begins where the table's last file ended. None is read any more.
   abbrev pub RetiredFiled : Step (Slot K) → Me (Slot K) View → ℕ → Me (Slot K) View → Type 0
   RetiredFiled st m n m' = (w : ℕ) (t : Table) (lasting : Lasting) (pending : List EntryNote)
-      → m.0.role ≡ Steps w → t.0 < 16 → st.word ≡ 10 + 4 * t.0
+      → m.0.role ≡ Steps w → t.0 < 16 → st.word ≡ 66 + 4 * t.0
       → CarriesAs shows lasting pending m.0.hands.progress m
       → MadeFiled w (Put w (OldestLive t) n) n (upper_of t.0 m.0.hands.lasting.filed.files)
       (with_reading None (with_desk lasting pending m.0.hands.progress m.0.hands)) m.0 m'.0

@@ -54,27 +54,27 @@ module _ {K : Type 0} where
   -- At a look at the newest memtable of a table the least that is not retired is read from now on.
   abbrev pub ReadBegun : Step (Slot K) → Me (Slot K) View → ℕ → Me (Slot K) View → Type 0
   ReadBegun st m n m' = (w k : ℕ) (t : Table) → m.0.role ≡ Steps w → t.0 < 16
-      → st.word ≡ 8 + 4 * t.0 → FlushOldest t.0 m.0.part k
+      → st.word ≡ 64 + 4 * t.0 → FlushOldest t.0 m.0.part k
       → MadeAs w (Look w (Newest t)) n (with_reading (Some (first_read t.0 k false)) m.0.hands) m.0
       m'.0 × (m'.1 ≡ m.1)
 
   -- the last retired one is, and its boxes are emptied
   abbrev pub EmptyingBegun : Step (Slot K) → Me (Slot K) View → ℕ → Me (Slot K) View → Type 0
   EmptyingBegun st m n m' = (w k : ℕ) (t : Table) → m.0.role ≡ Steps w → t.0 < 16
-      → st.word ≡ 8 + 4 * t.0 → FlushOldest t.0 m.0.part (suc k)
+      → st.word ≡ 64 + 4 * t.0 → FlushOldest t.0 m.0.part (suc k)
       → MadeAs w (Look w (Newest t)) n (with_reading (Some (first_read t.0 k true)) m.0.hands) m.0
       m'.0 × (m'.1 ≡ m.1)
 
   -- no memtable is read any more
   abbrev pub ReadEnded : Step (Slot K) → Me (Slot K) View → ℕ → Me (Slot K) View → Type 0
   ReadEnded st m n m' = (w : ℕ) (t : Table) → m.0.role ≡ Steps w → t.0 < 16
-      → st.word ≡ 8 + 4 * t.0
+      → st.word ≡ 64 + 4 * t.0
       → MadeAs w (Look w (Newest t)) n (with_reading None m.0.hands) m.0 m'.0 × (m'.1 ≡ m.1)
 
   -- the box of the next seat came
   abbrev pub ReadTaken : Step (Slot K) → Me (Slot K) View → ℕ → Me (Slot K) View → Type 0
   ReadTaken st m n m' = (w : ℕ) (t : Table) (q : FlushRead) → m.0.role ≡ Steps w → t.0 < 16
-      → st.word ≡ 8 + 4 * t.0 → m.0.hands.reading ≡ Some q
+      → st.word ≡ 64 + 4 * t.0 → m.0.hands.reading ≡ Some q
       → (held : List EntryNote) × MadeAs w (Look w (Newest t)) n
       (with_reading (Some (box_read (next_box m.0.size.seats q) held q)) m.0.hands) m.0 m'.0
       × TookRead (next_box m.0.size.seats q) held m m'
@@ -82,7 +82,7 @@ module _ {K : Type 0} where
   -- it went home, empty or as it was, and what it held was seen
   abbrev pub ReadGiven : Step (Slot K) → Me (Slot K) View → ℕ → Me (Slot K) View → Type 0
   ReadGiven st m n m' = (w : ℕ) (t : Table) (q : FlushRead) → m.0.role ≡ Steps w → t.0 < 16
-      → st.word ≡ 8 + 4 * t.0 → m.0.hands.reading ≡ Some q
+      → st.word ≡ 64 + 4 * t.0 → m.0.hands.reading ≡ Some q
       → MadeAs w (Look w (Newest t)) n (with_reading (Some (box_seen q)) m.0.hands) m.0 m'.0
       × (m'.1 ≡ rest m.1)
 
@@ -90,7 +90,7 @@ module _ {K : Type 0} where
   -- more.
   abbrev pub Retired : Step (Slot K) → Me (Slot K) View → ℕ → Me (Slot K) View → Type 0
   Retired st m n m' = (w : ℕ) (t : Table) → m.0.role ≡ Steps w → t.0 < 16
-      → st.word ≡ 10 + 4 * t.0
+      → st.word ≡ 66 + 4 * t.0
       → MadeAs w (Put w (OldestLive t) n) n (with_reading None m.0.hands) m.0 m'.0
       × (m'.1 ≡ m.1)
       × ((was : Was m.0 w (Put w (OldestLive t) n))

@@ -26,24 +26,25 @@ numbers_end = 2 ^ 47
 
 -- and the words in all
 abbrev pub word_rows : ℕ
-word_rows = 200
+word_rows = 704
 
--- where the word of a place stands
+-- Where the word of a place stands. Those that all seats share, the counts too, are eight apart, so
+-- that each has a cache line of its own.
 abbrev pub word_at : Place → ℕ
 word_at (Current Write) = 0
-word_at (Current Append) = 1
-word_at (Oldest Write) = 2
-word_at (Oldest Append) = 3
-word_at Log = 4
-word_at (CursorWord Synced) = 5
-word_at (CursorWord Stopped) = 6
-word_at (TurnWord Sync) = 7
-word_at (Newest t) = 8 + 4 * t.0
-word_at (TurnWord (Flush t)) = 9 + 4 * t.0
-word_at (CursorWord (OldestLive t)) = 10 + 4 * t.0
-word_at (Count Write g) = 72 + 2 * (g % 32)
-word_at (Count Append g) = 73 + 2 * (g % 32)
-word_at (Bound t m) = 136 + 16 * (m % 4) + t.0
+word_at (Current Append) = 8
+word_at (Oldest Write) = 16
+word_at (Oldest Append) = 24
+word_at Log = 32
+word_at (CursorWord Synced) = 40
+word_at (CursorWord Stopped) = 48
+word_at (TurnWord Sync) = 56
+word_at (Newest t) = 64 + 4 * t.0
+word_at (TurnWord (Flush t)) = 65 + 4 * t.0
+word_at (CursorWord (OldestLive t)) = 66 + 4 * t.0
+word_at (Count Write g) = 128 + 16 * (g % 32)
+word_at (Count Append g) = 136 + 16 * (g % 32)
+word_at (Bound t m) = 640 + 16 * (m % 4) + t.0
 
 -- there is a word for the place, which that of a group or of a memtable shares with others
 abbrev pub IsWord : Place → Type 0
@@ -113,4 +114,4 @@ reading_at _ n = Number n
 
 -- the words of a new table: the log is at its first key, and all else is 0
 abbrev pub first_words : List ℕ
-first_words = set (replicate 200 0) 4 28
+first_words = set (replicate 704 0) 32 28

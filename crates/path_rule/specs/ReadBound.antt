@@ -17,6 +17,6 @@ abbrev pub BoundRead : {K : Type 0} → Step (Slot K) → Me (Slot K) View → �
     → Type 0
 BoundRead st m n m' = (w k : ℕ) (t : Table) → m.0.role ≡ Steps w → t.0 < 16
     → (q : FlushRead) → m.0.hands.reading ≡ Some q → q.table ≡ t.0 → q.memtable ≡ k
-    → st.word ≡ 136 + 16 * (k % 4) + t.0
+    → st.word ≡ 640 + 16 * (k % 4) + t.0
     → (bound : ℕ) × (n ≡ bound_word (Final (record { 0 = bound })))
     × Made w (Look w (Bound t k)) n m m'

@@ -49,7 +49,7 @@ module _ {K : Type 0} where
   -- It is in the group whose number stood in the word that it looked at; or another word was found,
   -- and this was a look at the group whose number stands there.
   abbrev pub Registered : Step (Slot K) → Me (Slot K) View → ℕ → Me (Slot K) View → Type 0
-  Registered st m n m' = (w g : ℕ) → m.0.role ≡ Steps w → st.word ≡ 72 + 2 * (g % 32)
+  Registered st m n m' = (w g : ℕ) → m.0.role ≡ Steps w → st.word ≡ 128 + 16 * (g % 32)
       → number_in st.first ≡ g
       → (n ≡ st.first → Made w (Register w Write g) st.second m m')
       × (n ≢ st.first → Made w (Look w (Count Write (number_in n))) n m m')
@@ -64,7 +64,7 @@ module _ {K : Type 0} where
   CarriesNotes b notes m = (y : Slot K) × (m.1 ≡ (b, y) ∷ rest m.1) × NotesAre y notes
 
   abbrev pub Joined : Step (Slot K) → Me (Slot K) View → ℕ → Me (Slot K) View → Type 0
-  Joined st m n m' = (w g : ℕ) → m.0.role ≡ Steps w → st.word ≡ 73 + 2 * (g % 32)
+  Joined st m n m' = (w g : ℕ) → m.0.role ≡ Steps w → st.word ≡ 136 + 16 * (g % 32)
       → number_in st.first ≡ g
       → (n ≡ st.first → ((notes : List EntryNote)
       × MadeAs w (Register w Append g) st.second (with_notes notes m.0.hands) m.0 m'.0)

@@ -9,11 +9,11 @@ use Rattle.path_table.specs.declared.bounds.TableBounds.{TableBounds}
 -- the key of the bound below a memtable of a table, as its word has it; 0 below the first
 abbrev pub key_below : List ℕ → ℕ → ℕ → ℕ
 key_below words t zero = 0
-key_below words t (suc m) = slice_index words (136 + 16 * (m % 4) + t) % 2 ^ 62
+key_below words t (suc m) = slice_index words (640 + 16 * (m % 4) + t) % 2 ^ 62
 
 -- below the table's newest one
 abbrev pub last_key : List ℕ → ℕ → ℕ
-last_key words t = key_below words t (slice_index words (8 + 4 * t))
+last_key words t = key_below words t (slice_index words (64 + 4 * t))
 
 -- What a closed table tells of its tables' bounds in the state where its run ends: of each the last
 -- final one, and key 0 where there is none. It is that of the memtable below the newest, whose

@@ -139,7 +139,7 @@ impl<K: Keeper, A: Allocator> PathTable<K, A> {
     {
         self.table.shared.fetch_sub::<FinishIn<K>>(
             &mut member.seat,
-            WRITE_COUNTS + 2 * (group % 32) as usize,
+            WRITE_COUNTS + 16 * (group % 32) as usize,
             1,
         )
     }

@@ -50,7 +50,7 @@ impl<K: Keeper, A: Allocator> PathTable<K, A> {
     {
         self.table.shared.store::<OpenAppend<K>>(
             &mut member.seat,
-            APPEND_COUNTS + 2 * (group % 32) as usize,
+            APPEND_COUNTS + 16 * (group % 32) as usize,
             ONE_GROUP * group,
         );
         member.issued += 1;
@@ -92,7 +92,7 @@ impl<K: Keeper, A: Allocator> PathTable<K, A> {
     {
         self.table.shared.fetch_add::<ExpireAppend<K>>(
             &mut member.seat,
-            APPEND_COUNTS + 2 * (group % 32) as usize,
+            APPEND_COUNTS + 16 * (group % 32) as usize,
             EXPIRED,
         )
     }

@@ -54,7 +54,7 @@ impl<K: Keeper, A: Allocator> PathTable<K, A> {
     {
         self.table.shared.load::<LookAt<K>>(
             &mut member.seat,
-            APPEND_COUNTS + 2 * (group % 32) as usize,
+            APPEND_COUNTS + 16 * (group % 32) as usize,
         )
     }
 
@@ -81,7 +81,7 @@ impl<K: Keeper, A: Allocator> PathTable<K, A> {
     {
         self.table.shared.compare_exchange::<JoinIn<K>>(
             &mut member.seat,
-            APPEND_COUNTS + 2 * (group % 32) as usize,
+            APPEND_COUNTS + 16 * (group % 32) as usize,
             looked,
             looked + 1,
         )
@@ -100,7 +100,7 @@ impl<K: Keeper, A: Allocator> PathTable<K, A> {
     {
         self.table.shared.fetch_sub::<WithdrawFrom<K>>(
             &mut member.seat,
-            APPEND_COUNTS + 2 * (group % 32) as usize,
+            APPEND_COUNTS + 16 * (group % 32) as usize,
             1,
         )
     }
@@ -165,7 +165,7 @@ impl<K: Keeper, A: Allocator> PathTable<K, A> {
         member.last_end = end.max(member.last_end);
         self.table.shared.fetch_sub::<DepositIn<K>>(
             &mut member.seat,
-            APPEND_COUNTS + 2 * (group % 32) as usize,
+            APPEND_COUNTS + 16 * (group % 32) as usize,
             1,
         )
     }

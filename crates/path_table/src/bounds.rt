@@ -32,9 +32,9 @@ impl TableBounds {
 // That of one table, as its words tell it.
 fn last_bound<K>(closed: &Closed<Slot<K>, Global>, table: usize) -> u64
     requires full { IsFull closed.now.words }
-    requires wide { 200 ≤ slots_len closed.now.words }
+    requires wide { 704 ≤ slots_len closed.now.words }
     requires table { table < 16 }
-    requires few { slice_index (slots_items closed.now.words) (8 + 4 * table) ≤ numbers_end }
+    requires few { slice_index (slots_items closed.now.words) (64 + 4 * table) ≤ numbers_end }
     ensures { result ≡ last_key (slots_items closed.now.words) table }
 {
     let newest = closed.word(NEWEST + 4 * table);
@@ -48,9 +48,9 @@ fn last_bound<K>(closed: &Closed<Slot<K>, Global>, table: usize) -> u64
 // Those of all tables.
 pub(crate) fn last_bounds<K>(closed: &Closed<Slot<K>, Global>) -> TableBounds
     requires full { IsFull closed.now.words }
-    requires wide { 200 ≤ slots_len closed.now.words }
+    requires wide { 704 ≤ slots_len closed.now.words }
     requires few { (t : ℕ) → t < 16
-        → slice_index (slots_items closed.now.words) (8 + 4 * t) ≤ numbers_end }
+        → slice_index (slots_items closed.now.words) (64 + 4 * t) ≤ numbers_end }
     ensures { (t : ℕ) → t < 16
         → slice_index result.keys t ≡ last_key (slots_items closed.now.words) t }
 {

@@ -67,13 +67,13 @@ pub(crate) fn keeper_and_log<K: Keeper + Drop>(
     notes: &mut LinkedList<EntryNote>,
 ) -> (K, u64, TableBounds)
     requires full { IsFull closed.words × IsFull closed.slots }
-    requires words { 200 ≤ slots_len closed.words }
-    requires few { (t : ℕ) → t < 16 → slice_index (slots_items closed.words) (8 + 4 * t) ≤ numbers_end }
+    requires words { 704 ≤ slots_len closed.words }
+    requires few { (t : ℕ) → t < 16 → slice_index (slots_items closed.words) (64 + 4 * t) ≤ numbers_end }
     requires boxes { 0 < slots_len closed.slots }
     requires desk { (keeper : K) × HasInFront keeper (slots_items closed.slots) }
     ensures keeper { (keeper : K) → HasInFront keeper (slots_items closed.slots)
         → result.0 ≡ keeper }
-    ensures log { get_elem? (slots_items closed.words) 4 ≡ some result.1 }
+    ensures log { get_elem? (slots_items closed.words) 32 ≡ some result.1 }
     ensures bounds { (t : ℕ) → t < 16
         → slice_index result.2.keys t ≡ last_key (slots_items closed.words) t }
 {

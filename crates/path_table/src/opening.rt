@@ -101,7 +101,7 @@ fn first_words(alloc: Global) -> Result<Vec<u64>, AllocError>
 }
 
 /// Opens a table for a machine of these sizes, over a keeper that was just opened for them. It
-/// answers the table and the seat that hands out the others. It takes 200 words. Where memory
+/// answers the table and the seat that hands out the others. It takes 704 words. Where memory
 /// is refused the keeper comes back.
 pub fn open<K: Keeper + Drop>(
     alloc: Global,

@@ -45,8 +45,8 @@ fn count_word(order: Order, group: u64) -> usize
     ensures { result ≡ word_at (Count order group) }
 {
     match order {
-        Order::Write => WRITE_COUNTS + 2 * (group % 32) as usize,
-        Order::Append => APPEND_COUNTS + 2 * (group % 32) as usize,
+        Order::Write => WRITE_COUNTS + 16 * (group % 32) as usize,
+        Order::Append => APPEND_COUNTS + 16 * (group % 32) as usize,
     }
 }
 

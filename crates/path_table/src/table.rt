@@ -18,7 +18,7 @@ pub struct PathTable<K: Keeper, A: Allocator> {
     /// The sizes of the path.
     pub(crate) size: PathSize,
     pub ghost keyed: { table.shared.key.size ≡ size },
-    pub ghost wide: { table.shared.table_id.words ≡ 200 },
+    pub ghost wide: { table.shared.table_id.words ≡ 704 },
     pub ghost deep: { table.shared.table_id.slots ≡ all_boxes size.seats },
     pub ghost fits: { IsFit size },
 }

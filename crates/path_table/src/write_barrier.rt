@@ -47,7 +47,7 @@ impl<K: Keeper, A: Allocator> PathTable<K, A> {
     {
         self.table.shared.store::<OpenWrite<K>>(
             &mut member.seat,
-            WRITE_COUNTS + 2 * (group % 32) as usize,
+            WRITE_COUNTS + 16 * (group % 32) as usize,
             ONE_GROUP * group,
         );
         member.issued += 1;
@@ -90,7 +90,7 @@ impl<K: Keeper, A: Allocator> PathTable<K, A> {
     {
         self.table.shared.fetch_add::<ExpireWrite<K>>(
             &mut member.seat,
-            WRITE_COUNTS + 2 * (group % 32) as usize,
+            WRITE_COUNTS + 16 * (group % 32) as usize,
             EXPIRED,
         )
     }

@@ -41,9 +41,10 @@ impl<K: Keeper, A: Allocator> PathTable<K, A> {
             result
             member.new }
     {
-        self.table
-            .shared
-            .load::<LookAt<K>>(&mut member.seat, WRITE_COUNTS + 2 * (group % 32) as usize)
+        self.table.shared.load::<LookAt<K>>(
+            &mut member.seat,
+            WRITE_COUNTS + 16 * (group % 32) as usize,
+        )
     }
 
     /// Joins the group that the member last found current, if its word is still the one that was
@@ -64,7 +65,7 @@ impl<K: Keeper, A: Allocator> PathTable<K, A> {
     {
         self.table.shared.compare_exchange::<RegisterIn<K>>(
             &mut member.seat,
-            WRITE_COUNTS + 2 * (group % 32) as usize,
+            WRITE_COUNTS + 16 * (group % 32) as usize,
             looked,
             looked + 1,
         )
@@ -82,7 +83,7 @@ impl<K: Keeper, A: Allocator> PathTable<K, A> {
     {
         self.table.shared.fetch_sub::<StopIn<K>>(
             &mut member.seat,
-            WRITE_COUNTS + 2 * (group % 32) as usize,
+            WRITE_COUNTS + 16 * (group % 32) as usize,
             1,
         )
     }

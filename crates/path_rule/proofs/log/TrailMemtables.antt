@@ -83,7 +83,7 @@ finds_next t m gave (s ∷ ss) R = ⊎_elim (λ now. inl (by s.event s.found s.f
 
 -- the word of the least memtable that is not retired tells its table
 same_table : (u t : Table) → CursorWord (OldestLive u) ≡ CursorWord (OldestLive t) → u.0 ≡ t.0
-same_table u t e = let is : 10 + 4 * u.0 ≡ 10 + 4 * t.0 = ap word_at e in omega arith
+same_table u t e = let is : 66 + 4 * u.0 ≡ 66 + 4 * t.0 = ap word_at e in omega arith
 
 module _ (x : PathState) (L : IsLawfulPath x) where
   abbrev Z : IsLawfulPlacing x

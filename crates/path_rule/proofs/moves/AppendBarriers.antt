@@ -44,10 +44,10 @@ module _ {K : Type 0} (shows : K → Lasting) (o : Beside) (size : PathSize) (sl
     (m : Me (Slot K) View) (w : ℕ) (mine : m.0.role ≡ Steps w) where
   pub expires : (g c : ℕ) → issue_of m.0.part ≡ Moved Append → TurnSaw Append m.0.part c → suc g ≡ c
       → m.0.hands.box_taken ≡ None
-      → Allows (Ruled shows o size) slots id m (73 + 2 * (g % 32)) (λ n. (n + 2 ^ 63) % 2 ^ 64)
-      (AppendExpired (step slots (73 + 2 * (g % 32)) (2 ^ 63) 0 none) m)
+      → Allows (Ruled shows o size) slots id m (136 + 16 * (g % 32)) (λ n. (n + 2 ^ 63) % 2 ^ 64)
+      (AppendExpired (step slots (136 + 16 * (g % 32)) (2 ^ 63) 0 none) m)
   expires g c doing saw up empty s r _ there low =
-      let n = slice_index s.words (73 + 2 * (g % 32)) in
+      let n = slice_index s.words (136 + 16 * (g % 32)) in
       let x = r.core in let k = tally_of x Append g in
       let e = Expire w Append g in let v' = view_after m.0 e n in
       let law = core_lawful shows o size s r in
@@ -123,8 +123,8 @@ module _ {K : Type 0} (shows : K → Lasting) (o : Beside) (size : PathSize) (sl
   pub advances : (g d c : ℕ) (t : SyncTurn) → m.0.part.sync ≡ Some t → t.append.current ≡ Some c
       → t.append.oldest ≡ Some d → t.append.finished ≡ Some d → g ≡ suc d → g ≤ c
       → m.0.hands.box_taken ≡ None
-      → Allows (Ruled shows o size) slots id m 3 (λ _. g)
-      (λ _. AppendAdvanced (step slots 3 g 0 none) m g)
+      → Allows (Ruled shows o size) slots id m 24 (λ _. g)
+      (λ _. AppendAdvanced (step slots 24 g 0 none) m g)
   advances g d c t sync saw old gone up le empty s r _ there _ = let x = r.core in
       let e = Advance w Append g in let v' = view_after m.0 e g in
       let law = core_lawful shows o size s r in let held = is_held m.0.part.sync t sync in
@@ -169,8 +169,8 @@ module _ {K : Type 0} (shows : K → Lasting) (o : Beside) (size : PathSize) (sl
   -- the same, told by what was found
   pub advances_at : (g d c : ℕ) → TurnSaw Append m.0.part c → TurnOld Append m.0.part d
       → TurnGone Append m.0.part d → g ≡ suc d → g ≤ c → m.0.hands.box_taken ≡ None
-      → Allows (Ruled shows o size) slots id m 3 (λ _. g)
-      (λ _. AppendAdvanced (step slots 3 g 0 none) m g)
+      → Allows (Ruled shows o size) slots id m 24 (λ _. g)
+      (λ _. AppendAdvanced (step slots 24 g 0 none) m g)
   advances_at g d c saw old gone = advances g d c saw.0 saw.1 saw.2
       (ap (λ (t : SyncTurn). t.append.oldest) (same (sym saw.1 ∙ old.1)) ∙ old.2)
       (ap (λ (t : SyncTurn). t.append.finished) (same (sym saw.1 ∙ gone.1)) ∙ gone.2)

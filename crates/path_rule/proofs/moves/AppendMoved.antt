@@ -95,8 +95,8 @@ module _ {K : Type 0} (shows : K → Lasting) (o : Beside) (size : PathSize) (sl
   pub moves : (g c start : ℕ) → MarkerWaits w m.0.part start → issue_of m.0.part ≡ Opened Append
       → TurnSaw Append m.0.part c → g ≡ suc c → m.0.hands.progress.gathered ≡ true
       → m.0.hands.box_taken ≡ None
-      → Allows (Ruled shows o size) slots id m 1 (λ _. g)
-      (λ _. AppendMoved (step slots 1 g 0 none) m g)
+      → Allows (Ruled shows o size) slots id m 8 (λ _. g)
+      (λ _. AppendMoved (step slots 8 g 0 none) m g)
   moves g c start waits doing saw up all empty s r _ there _ = let x = r.core in
       let e = MoveCurrent w Append g in
       let h = with_desk m.0.hands.lasting m.0.hands.pending

@@ -42,8 +42,8 @@ module _ {K : Type 0} (shows : K → Lasting) (o : Beside) (size : PathSize) (sl
       → issue_of m.0.part ≡ Rest → TurnSaw Append m.0.part c → g ≡ suc c
       → TurnOld Append m.0.part d → g ≤ d + 31
       → m.0.hands.box_taken ≡ None → FoundRunning m.0.part → issued_in m.0.trail < most_issued
-      → Allows (Ruled shows o size) slots id m (73 + 2 * (g % 32)) (λ _. 65536 * g)
-      (λ _. AppendOpened (step slots (73 + 2 * (g % 32)) (65536 * g) 0 none) m (65536 * g))
+      → Allows (Ruled shows o size) slots id m (136 + 16 * (g % 32)) (λ _. 65536 * g)
+      (λ _. AppendOpened (step slots (136 + 16 * (g % 32)) (65536 * g) 0 none) m (65536 * g))
   opens_append g c d start waits held calm saw up old near empty runs fits s r _ there _ =
       let x = r.core in
       let e = OpenGroup w Append g in let n : ℕ = 65536 * g in let v' = view_after m.0 e n in

@@ -101,10 +101,10 @@ module _ {K : Type 0} (shows : K → Lasting) (o : Beside) (size : PathSize) (sl
   pub joins : (g k : ℕ) → IsSome m.0.part.write → m.0.part.append ≡ None → m.0.part.claim ≡ None
       → HoldsNoTurn m.0.part → (found_of Append m.0.part).current ≡ Some g → number_in k ≡ g
       → k < 2 ^ 63
-      → Allows (Ruled shows o size) slots id m (73 + 2 * (g % 32)) (λ n. either (eqb n k) (k + 1) n)
-      (Joined (step slots (73 + 2 * (g % 32)) k (k + 1) none) m)
+      → Allows (Ruled shows o size) slots id m (136 + 16 * (g % 32)) (λ n. either (eqb n k) (k + 1) n)
+      (Joined (step slots (136 + 16 * (g % 32)) k (k + 1) none) m)
   joins g k write outside unclaimed bare saw number low s r _ there _ =
-      let i : ℕ = 73 + 2 * (g % 32) in let n = slice_index s.words i in let x = r.core in
+      let i : ℕ = 136 + 16 * (g % 32) in let n = slice_index s.words i in let x = r.core in
       let c = tally_of x Append g in
       let then = Joined (step slots i k (k + 1) none) m n in
       exchanged n k (k + 1) (λ z. Owes shows o size slots id m w mine s i z then)
@@ -186,11 +186,11 @@ module _ {K : Type 0} (shows : K → Lasting) (o : Beside) (size : PathSize) (sl
 
   pub withdraws : (g : ℕ) (y : Slot K) (cs : List (ℕ × Slot K)) → m.0.part.append ≡ Some g
       → m.0.part.claim ≡ None → m.1 ≡ (box_of w g, y) ∷ cs → NotesAre y m.0.hands.notes
-      → Allows (Ruled shows o size) slots id m (73 + 2 * (g % 32))
+      → Allows (Ruled shows o size) slots id m (136 + 16 * (g % 32))
       (λ n. (n + (2 ^ 64 - 1)) % 2 ^ 64)
-      (Withdrew (step slots (73 + 2 * (g % 32)) 1 0 none) m)
+      (Withdrew (step slots (136 + 16 * (g % 32)) 1 0 none) m)
   withdraws g y cs append claim holds kept s r _ there low = let n =
-      slice_index s.words (73 + 2 * (g % 32)) in let x = r.core in let c = tally_of x Append g in
+      slice_index s.words (136 + 16 * (g % 32)) in let x = r.core in let c = tally_of x Append g in
       let e = Close w Append g Nothing in
       let here = own_part shows o size slots id m w mine s r there (λ (p : SeatOf). p.append)
       (Some g) append in

@@ -86,7 +86,7 @@ module _ {K : Type 0} (shows : K → Lasting) (o : Beside) (size : PathSize) (sl
   pub same_word : (s : State (Slot K) View) (r : Ruled shows o size s)
       → get_elem? s.views id ≡ some m.0 → (t u : Table) (f h : ℕ) → t.0 < 16 → u.0 < 16
       → IsNear r.core t.0 f → KnowsNear m.0.part u.0 h
-      → 136 + 16 * (f % 4) + t.0 ≡ 136 + 16 * (h % 4) + u.0 → (t.0 ≡ u.0) × (f ≡ h)
+      → 640 + 16 * (f % 4) + t.0 ≡ 640 + 16 * (h % 4) + u.0 → (t.0 ≡ u.0) × (f ≡ h)
   same_word s r there t u f h few low near known is =
       let a : t.0 ≡ u.0 = omega arith in let L = core_lawful shows o size s r in
       let part = as_part shows o size slots id m w mine s r there in (
@@ -99,10 +99,10 @@ module _ {K : Type 0} (shows : K → Lasting) (o : Beside) (size : PathSize) (sl
   pub raises : (t : Table) (f to : ℕ) → t.0 < 16 → t.0 < m.0.size.tables
       → ((s : State (Slot K) View) (r : Ruled shows o size s) → get_elem? s.views id ≡ some m.0
       → RaisesNow r.core w t.0 f to)
-      → Allows (Ruled shows o size) slots id m (136 + 16 * (f % 4) + t.0) (λ n. max n (to + 2 ^ 62))
-      (BoundRaised (step slots (136 + 16 * (f % 4) + t.0) (to + 2 ^ 62) 0 none) m)
+      → Allows (Ruled shows o size) slots id m (640 + 16 * (f % 4) + t.0) (λ n. max n (to + 2 ^ 62))
+      (BoundRaised (step slots (640 + 16 * (f % 4) + t.0) (to + 2 ^ 62) 0 none) m)
   raises t f to few inside now s r _ there _ =
-      let i : ℕ = 136 + 16 * (f % 4) + t.0 in let n = slice_index s.words i in let x = r.core in
+      let i : ℕ = 640 + 16 * (f % 4) + t.0 in let n = slice_index s.words i in let x = r.core in
       let L = core_lawful shows o size s r in let R = now s r there in
       let b = (memtable_of x t.0 f).bound in
       let found : n ≡ bound_word b = r.words (Bound t f) (few, R.near) in

@@ -49,12 +49,12 @@ module _ {K : Type 0} (shows : K → Lasting) (o : Beside) (size : PathSize) (sl
     (m : Me (Slot K) View) (w : ℕ) (mine : m.0.role ≡ Steps w) where
   pub claims : (from to : ℕ) → IsSome m.0.part.write → IsSome m.0.part.append
       → m.0.part.claim ≡ None → MovesLog Entry m.0.size.capacity m.0.size.ordinals from to
-      → Allows (Ruled shows o size) slots id m 4 (λ n. either (eqb n from) to n)
-      (Claimed (step slots 4 from to none) m)
-  claims from to write append claim moves s r _ there _ = let n = slice_index s.words 4 in
+      → Allows (Ruled shows o size) slots id m 32 (λ n. either (eqb n from) to n)
+      (Claimed (step slots 32 from to none) m)
+  claims from to write append claim moves s r _ there _ = let n = slice_index s.words 32 in
       let x = r.core in let found : n ≡ x.log = r.words Log tt in
-      let then = Claimed (step slots 4 from to none) m n in
-      exchanged n from to (λ z. Owes shows o size slots id m w mine s 4 z then)
+      let then = Claimed (step slots 32 from to none) m n in
+      exchanged n from to (λ z. Owes shows o size slots id m w mine s 32 z then)
       (λ hit. let e = Claim w (record { 0 = from }) (record { 0 = to }) Entry in
       let is = as_part shows o size slots id m w mine s r there in
       let v' = view_after m.0 e to in

@@ -66,11 +66,11 @@ module _ {K : Type 0} (shows : K → Lasting) (o : Beside) (size : PathSize) (sl
       → m.0.part.claim ≡ Some (record { start = note.start.0; end = note.end.0 })
       → note.writer.0 ≡ w → note.tables < 2 ^ m.0.size.tables → IsWhole note
       → m.1 ≡ (box_of w g, Notes (m.0.hands.notes ++ note ∷ [])) ∷ cs
-      → Allows (Ruled shows o size) slots id m (73 + 2 * (g % 32))
+      → Allows (Ruled shows o size) slots id m (136 + 16 * (g % 32))
       (λ n. (n + (2 ^ 64 - 1)) % 2 ^ 64)
-      (Deposited (step slots (73 + 2 * (g % 32)) 1 0 none) m)
+      (Deposited (step slots (136 + 16 * (g % 32)) 1 0 none) m)
   deposits g note cs append claim writer tables whole holds s r _ there low = let n =
-      slice_index s.words (73 + 2 * (g % 32)) in let x = r.core in let c = tally_of x Append g in
+      slice_index s.words (136 + 16 * (g % 32)) in let x = r.core in let c = tally_of x Append g in
       let law = core_lawful shows o size s r in let e = Close w Append g (Deposit note) in
       let here = own_part shows o size slots id m w mine s r there (λ (p : SeatOf). p.append)
       (Some g) append in

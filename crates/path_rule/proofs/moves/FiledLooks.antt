@@ -31,8 +31,8 @@ use Rattle.path_rule.proofs.places.ReadBack.{log_small}
 module _ {K : Type 0} (shows : K → Lasting) (o : Beside) (size : PathSize) (slots id : ℕ)
     (m : Me (Slot K) View) (w : ℕ) (mine : m.0.role ≡ Steps w) where
   pub looks_filed : (t : SyncTurn) → m.0.part.sync ≡ Some t → t.stopped ≡ Some 0
-      → Allows (Ruled shows o size) slots id m 5 (λ n. n) (FiledFound (step slots 5 0 0 none) m)
-  looks_filed turn sync runs s r _ there _ = let n = slice_index s.words 5 in let x = r.core in
+      → Allows (Ruled shows o size) slots id m 40 (λ n. n) (FiledFound (step slots 40 0 0 none) m)
+  looks_filed turn sync runs s r _ there _ = let n = slice_index s.words 40 in let x = r.core in
       let e = Look w (CursorWord Synced) in let v' = view_after m.0 e n in
       let found : n ≡ x.synced = r.words (CursorWord Synced) tt in
       let L = core_lawful shows o size s r in
@@ -47,7 +47,7 @@ module _ {K : Type 0} (shows : K → Lasting) (o : Beside) (size : PathSize) (sl
       let Q : Type 0 = (key : ℕ) → Finds (CursorWord Synced) key m.0.trail
       → after m.0.size.capacity key ≤ after m.0.size.capacity n in
       look_owes shows o size slots id m w mine s r there (CursorWord Synced) tt tt
-      (FiledFound (step slots 5 0 0 none) m n) (λ made seen.
+      (FiledFound (step slots 40 0 0 none) m n) (λ made seen.
       each_seat_name shows o size slots id m w mine
       (λ u. Made u (Look u (CursorWord Synced)) n m (v', m.1) × P × (n < 2 ^ 62) × Q) (
         made,

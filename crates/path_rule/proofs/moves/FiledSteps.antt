@@ -249,8 +249,8 @@ module _ {K : Type 0} (shows : K → Lasting) (o : Beside) (size : PathSize) (sl
         (r.memtables.settled z u j n small among))
 
   pub retires_filed : CarriesFiled shows put_now m
-      → Allows (Ruled shows o size) slots id m (10 + 4 * t.0) (λ _. suc k)
-      (λ _. RetiredFiled shows (step slots (10 + 4 * t.0) (suc k) 0 none) m (suc k))
+      → Allows (Ruled shows o size) slots id m (66 + 4 * t.0) (λ _. suc k)
+      (λ _. RetiredFiled shows (step slots (66 + 4 * t.0) (suc k) 0 none) m (suc k))
   retires_filed C s r _ there _ = let may = may_now s r there in let B = r.boxed in
       let rows = rows_stay (x s r there) e may (λ q. q) r.rows in
       let D = (hands_now shows o size slots id m w mine s r there).desk held in
@@ -294,7 +294,7 @@ module _ {K : Type 0} (shows : K → Lasting) (o : Beside) (size : PathSize) (sl
         λ z u lasting pending role _ word C'. let d = desk_same shows C.0 C'.0
             (more_filed put_now m.0.hands.lasting) lasting m.0.hands.pending pending
             m.0.hands.progress (ap (top_box C.0) (sym C.1 ∙ C'.1)) C.2 C'.2 in
-            each_table_name shows o size slots id m w mine 10 t
+            each_table_name shows o size slots id m w mine 66 t
             (λ z u. MadeFiled z (Put z (OldestLive u) (suc k)) (suc k)
             (upper_of u.0 m.0.hands.lasting.filed.files) (with_reading None
             (with_desk lasting pending m.0.hands.progress m.0.hands)) m.0 v' × (m.1 ≡ m.1)
@@ -320,8 +320,8 @@ module _ {K : Type 0} (shows : K → Lasting) (o : Beside) (size : PathSize) (sl
 
   -- the same, of the next memtable's number
   pub retires_with : (f : ℕ) → suc k ≡ f → CarriesFiled shows put_now m
-      → Allows (Ruled shows o size) slots id m (10 + 4 * t.0) (λ _. f)
-      (λ _. RetiredFiled shows (step slots (10 + 4 * t.0) f 0 none) m f)
-  retires_with f up C = subst (λ (n : ℕ). Allows (Ruled shows o size) slots id m (10 + 4 * t.0)
-      (λ _. n) (λ _. RetiredFiled shows (step slots (10 + 4 * t.0) n 0 none) m n)) up
+      → Allows (Ruled shows o size) slots id m (66 + 4 * t.0) (λ _. f)
+      (λ _. RetiredFiled shows (step slots (66 + 4 * t.0) f 0 none) m f)
+  retires_with f up C = subst (λ (n : ℕ). Allows (Ruled shows o size) slots id m (66 + 4 * t.0)
+      (λ _. n) (λ _. RetiredFiled shows (step slots (66 + 4 * t.0) n 0 none) m n)) up
       (retires_filed C)

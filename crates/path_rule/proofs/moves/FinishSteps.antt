@@ -91,11 +91,11 @@ module _ {K : Type 0} (shows : K → Lasting) (o : Beside) (size : PathSize) (sl
     (m : Me (Slot K) View) (w : ℕ) (mine : m.0.role ≡ Steps w) where
   pub finishes : (g : ℕ) → m.0.part.write ≡ Some g → m.0.part.append ≡ None → IsPlaced m.0.part
       → AreApplied m.0.part m.0.hands → m.0.hands.memtable_box ≡ None
-      → Allows (Ruled shows o size) slots id m (72 + 2 * (g % 32))
+      → Allows (Ruled shows o size) slots id m (128 + 16 * (g % 32))
       (λ n. (n + (2 ^ 64 - 1)) % 2 ^ 64)
-      (Finished (step slots (72 + 2 * (g % 32)) 1 0 none) m)
+      (Finished (step slots (128 + 16 * (g % 32)) 1 0 none) m)
   finishes g write append placed applied rests s r _ there low =
-      let i : ℕ = 72 + 2 * (g % 32) in let n = slice_index s.words i in
+      let i : ℕ = 128 + 16 * (g % 32) in let n = slice_index s.words i in
       let x = r.core in let c = tally_of x Write g in
       let places = places_of m.0.part in
       let e = Close w Write g (Applied places) in

@@ -109,7 +109,7 @@ module _ {K : Type 0} (shows : K → Lasting) (o : Beside) (size : PathSize) (sl
         (homes_after s.homes m.1 a)
         (set s.views id v'))
         → SameHeld m.0.hands h → MovesBelow (boxes size.seats) m.1 a
-        → Ruled shows o size (stepped s 3 n id m.1 v' a) × Was m.0 w e
+        → Ruled shows o size (stepped s 24 n id m.1 v' a) × Was m.0 w e
     looked n found h a boxed same below = let x = r.core in let e = Look w (Oldest Append) in
         let law = core_lawful shows o size s r in
         let may : IsStep x e = record {
@@ -129,8 +129,8 @@ module _ {K : Type 0} (shows : K → Lasting) (o : Beside) (size : PathSize) (sl
 
   pub gathers : (c : ℕ) → TurnSaw Append m.0.part c → issue_of m.0.part ≡ Rest
       → m.0.hands.box_taken ≡ None → m.0.hands.swept < size.seats
-      → Allows (Ruled shows o size) slots id m 3 (λ n. n) (Gathered (step slots 3 0 0 none) m)
-  gathers c saw rest_now empty more s r _ there _ = let n = slice_index s.words 3 in
+      → Allows (Ruled shows o size) slots id m 24 (λ n. n) (Gathered (step slots 24 0 0 none) m)
+  gathers c saw rest_now empty more s r _ there _ = let n = slice_index s.words 24 in
       let x = r.core in let e = Look w (Oldest Append) in
       let held = is_held m.0.part.sync saw.0 saw.1 in
       let found : n ≡ x.append.oldest = r.words (Oldest Append) tt in
@@ -186,7 +186,7 @@ module _ {K : Type 0} (shows : K → Lasting) (o : Beside) (size : PathSize) (sl
       ))
       (λ miss. let v' = view_after m.0 e n in
       look_owes shows o size slots id m w mine s r there (Oldest Append) tt tt
-      (Gathered (step slots 3 0 0 none) m n) (λ made _.
+      (Gathered (step slots 24 0 0 none) m n) (λ made _.
       each_pair c saw (λ z d. (n ≡ d → ((taken : List EntryNote)
       × MadeAs z (Look z (Oldest Append)) n
       (with_taken (Some (box_of k (suc d))) taken m.0.hands) m.0 v')
@@ -212,8 +212,8 @@ module _ {K : Type 0} (shows : K → Lasting) (o : Beside) (size : PathSize) (sl
   pub gives_back : (c : ℕ) (y : Slot K) (cs : List (ℕ × Slot K)) → TurnSaw Append m.0.part c
       → m.0.hands.box_taken ≡ Some (box_of m.0.hands.swept (suc c))
       → m.1 ≡ (box_of m.0.hands.swept (suc c), y) ∷ cs → NotesAre y []
-      → Allows (Ruled shows o size) slots id m 3 (λ n. n) (GaveBack (step slots 3 0 0 none) m)
-  gives_back c y cs saw taken holds void s r _ there _ = let n = slice_index s.words 3 in
+      → Allows (Ruled shows o size) slots id m 24 (λ n. n) (GaveBack (step slots 24 0 0 none) m)
+  gives_back c y cs saw taken holds void s r _ there _ = let n = slice_index s.words 24 in
       let x = r.core in let e = Look w (Oldest Append) in
       let held = is_held m.0.part.sync saw.0 saw.1 in
       let found : n ≡ x.append.oldest = r.words (Oldest Append) tt in

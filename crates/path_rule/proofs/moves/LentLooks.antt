@@ -134,8 +134,8 @@ module _ {K : Type 0} (shows : K → Lasting) (o : Beside) (size : PathSize) (sl
     (m : Me (Slot K) View) (w : ℕ) (mine : m.0.role ≡ Steps w) where
   pub looks_lent : (t : SyncTurn) → m.0.part.sync ≡ Some t → t.stopped ≡ Some 0
       → m.0.hands.progress.gathered ≡ true
-      → Allows (Ruled shows o size) slots id m 5 (λ n. n) (LentFound (step slots 5 0 0 none) m)
-  looks_lent t sync runs all s r _ there _ = let n = slice_index s.words 5 in let x = r.core in
+      → Allows (Ruled shows o size) slots id m 40 (λ n. n) (LentFound (step slots 40 0 0 none) m)
+  looks_lent t sync runs all s r _ there _ = let n = slice_index s.words 40 in let x = r.core in
       let e = Look w (CursorWord Synced) in let v' = view_after m.0 e n in
       let found : n ≡ x.synced = r.words (CursorWord Synced) tt in
       let may : IsStep x e = record {
@@ -152,7 +152,7 @@ module _ {K : Type 0} (shows : K → Lasting) (o : Beside) (size : PathSize) (sl
       let goes = subst (λ (q : ℕ × ℕ). GoesOnBehind q.0 q.1)
       (λ i. (sym capacity i, sym found i)) (goes_on x (core_lawful shows o size s r)) in
       look_owes shows o size slots id m w mine s r there (CursorWord Synced) tt tt
-      (LentFound (step slots 5 0 0 none) m n) (λ made _.
+      (LentFound (step slots 40 0 0 none) m n) (λ made _.
       each_seat_name shows o size slots id m w mine
       (λ u. Made u (Look u (CursorWord Synced)) n m (v', m.1) × P u
       × GoesOnBehind m.0.size.capacity n) (

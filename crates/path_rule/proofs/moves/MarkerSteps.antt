@@ -49,12 +49,12 @@ module _ {K : Type 0} (shows : K → Lasting) (o : Beside) (size : PathSize) (sl
       → FoundRunning m.0.part
       → behind_last m.0.size.capacity m.0.hands.progress.marker < from
       → MovesLog Marker m.0.size.capacity m.0.size.ordinals from to
-      → Allows (Ruled shows o size) slots id m 4 (λ n. either (eqb n from) to n)
-      (MarkerClaimed (step slots 4 from to none) m)
-  claims_marker from to held empty runs moved moves s r _ there _ = let n = slice_index s.words 4 in
+      → Allows (Ruled shows o size) slots id m 32 (λ n. either (eqb n from) to n)
+      (MarkerClaimed (step slots 32 from to none) m)
+  claims_marker from to held empty runs moved moves s r _ there _ = let n = slice_index s.words 32 in
       let x = r.core in let B = r.boxed in let found : n ≡ x.log = r.words Log tt in
-      let then = MarkerClaimed (step slots 4 from to none) m n in
-      exchanged n from to (λ z. Owes shows o size slots id m w mine s 4 z then)
+      let then = MarkerClaimed (step slots 32 from to none) m n in
+      exchanged n from to (λ z. Owes shows o size slots id m w mine s 32 z then)
       (λ hit. let e = Claim w (record { 0 = from }) (record { 0 = to }) Marker in
       let c = claim_of x.capacity w from to Marker in let law = core_lawful shows o size s r in
       let h = with_marker w from m.0.hands in let v' = view_after (with_hands h m.0) e to in

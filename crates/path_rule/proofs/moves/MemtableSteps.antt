@@ -142,16 +142,16 @@ module _ {K : Type 0} (shows : K → Lasting) (o : Beside) (size : PathSize) (sl
     -- a look at the newest memtable of a table, with what the boxes tell then
     looked : (t : Table) → t.0 < 16 → t.0 < m.0.size.tables → (h : Hands) (a : Act (Slot K))
         → h.reading ≡ m.0.hands.reading
-        → let e = Look w (Newest t) in let n = slice_index s.words (8 + 4 * t.0) in
+        → let e = Look w (Newest t) in let n = slice_index s.words (64 + 4 * t.0) in
         let v' = view_after (with_hands h m.0) e n in
         (Columns e m.0.part v'.part → Boxed shows size.seats r.core.notes
         (shown o size.at_open r.kept_to r.filed r.dropped r.core) r.core.claims r.core.append
         (homes_after s.homes m.1 a) (set s.views id v'))
         → (Columns e m.0.part v'.part → HasMemtables size.seats r.core.notes r.core.placed
         r.core.tables (homes_after s.homes m.1 a) (set s.views id v'))
-        → Ruled shows o size (stepped s (8 + 4 * t.0) n id m.1 v' a) × Was m.0 w e
+        → Ruled shows o size (stepped s (64 + 4 * t.0) n id m.1 v' a) × Was m.0 w e
     looked t few inside h a reading boxed memtables = let x = r.core in let e = Look w (Newest t) in
-        let n = slice_index s.words (8 + 4 * t.0) in
+        let n = slice_index s.words (64 + 4 * t.0) in
         let found : n ≡ (table_of x t.0).newest = r.words (Newest t) few in
         let may : IsStep x e = record {
           seat = within shows o size slots id m w mine s r there;
@@ -173,10 +173,10 @@ module _ {K : Type 0} (shows : K → Lasting) (o : Beside) (size : PathSize) (sl
   -- It takes the box of its place at a table.
   pub takes_memtable : (t : Table) (k : ℕ) → m.0.hands.memtable_box ≡ None
       → (seat_table m.0.part t.0).place ≡ Some k → t.0 < 16 → t.0 < m.0.size.tables
-      → Allows (Ruled shows o size) slots id m (8 + 4 * t.0) (λ n. n)
-      (MemtableTaken (step slots (8 + 4 * t.0) 0 0 none) m)
+      → Allows (Ruled shows o size) slots id m (64 + 4 * t.0) (λ n. n)
+      (MemtableTaken (step slots (64 + 4 * t.0) 0 0 none) m)
   takes_memtable t k rests place small inside s r _ there _ =
-      let n = slice_index s.words (8 + 4 * t.0) in let x = r.core in let e = Look w (Newest t) in
+      let n = slice_index s.words (64 + 4 * t.0) in let x = r.core in let e = Look w (Newest t) in
       let M = r.memtables in let law = core_lawful shows o size s r in
       let box = memtable_box size.seats w t.0 k in let held = M.contents box in
       let h = with_held box held m.0.hands in let v' = view_after (with_hands h m.0) e n in
@@ -201,7 +201,7 @@ module _ {K : Type 0} (shows : K → Lasting) (o : Beside) (size : PathSize) (sl
         takes box home.0,
         home.1,
         did.0,
-        λ z k' u role _ word at. each_table_name shows o size slots id m w mine 8 t
+        λ z k' u role _ word at. each_table_name shows o size slots id m w mine 64 t
             (λ z u. (k' : ℕ) → (seat_table m.0.part u.0).place ≡ Some k'
             → ((ns : List EntryNote) × MadeAs z (Look z (Newest u)) n
             (with_held (memtable_box m.0.size.seats z u.0 k') ns m.0.hands) m.0 v')
@@ -226,10 +226,10 @@ module _ {K : Type 0} (shows : K → Lasting) (o : Beside) (size : PathSize) (sl
       → MayApply m.0 w t.0 note
       → m.1 ≡ (memtable_box m.0.size.seats w t.0 k, Notes (m.0.hands.held ++ note ∷ [])) ∷ cs
       → t.0 < 16 → t.0 < m.0.size.tables
-      → Allows (Ruled shows o size) slots id m (8 + 4 * t.0) (λ n. n)
-      (MemtableGiven (step slots (8 + 4 * t.0) 0 0 none) m)
+      → Allows (Ruled shows o size) slots id m (64 + 4 * t.0) (λ n. n)
+      (MemtableGiven (step slots (64 + 4 * t.0) 0 0 none) m)
   gives_memtable t k note cs place has applies holds small inside s r _ there _ =
-      let n = slice_index s.words (8 + 4 * t.0) in let x = r.core in let e = Look w (Newest t) in
+      let n = slice_index s.words (64 + 4 * t.0) in let x = r.core in let e = Look w (Newest t) in
       let M = r.memtables in let new = put_there t k note in
       let box = memtable_box size.seats w t.0 k in let y = Notes (m.0.hands.held ++ note ∷ []) in
       let h = with_applied new m.0.hands in let v' = view_after (with_hands h m.0) e n in
@@ -257,7 +257,7 @@ module _ {K : Type 0} (shows : K → Lasting) (o : Beside) (size : PathSize) (sl
         did.0,
         λ z k' u other role _ word at laid. let one : note ≡ other = last_same m.0.hands.held note
             other (ap notes_first (sym holds ∙ laid)) in
-            each_table_name shows o size slots id m w mine 8 t
+            each_table_name shows o size slots id m w mine 64 t
             (λ z u. (k' : ℕ) → (seat_table m.0.part u.0).place ≡ Some k'
             → MadeAs z (Look z (Newest u)) n (with_applied (put_there u k' other) m.0.hands) m.0 v'
             × (rest m.1 ≡ rest m.1))

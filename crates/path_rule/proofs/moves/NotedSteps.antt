@@ -146,9 +146,9 @@ module _ {K : Type 0} (shows : K → Lasting) (o : Beside) (size : PathSize) (sl
 
   pub notes_filing : CarriesAs shows (noted refused archived dropped m.0.hands.lasting.stopped
       m.0.hands.lasting) m.0.hands.pending m.0.hands.progress m
-      → Allows (Ruled shows o size) slots id m 6 (λ n. n)
-      (FilingNoted shows (step slots 6 0 0 none) m)
-  notes_filing C s r _ there _ = let n = slice_index s.words 6 in let x = r.core in
+      → Allows (Ruled shows o size) slots id m 48 (λ n. n)
+      (FilingNoted shows (step slots 48 0 0 none) m)
+  notes_filing C s r _ there _ = let n = slice_index s.words 48 in let x = r.core in
       let e = Look w (CursorWord Stopped) in
       let stopped = m.0.hands.lasting.stopped in let h = hands_with stopped in
       let v' = view_after (with_hands h m.0) e n in
@@ -199,8 +199,8 @@ module _ {K : Type 0} (shows : K → Lasting) (o : Beside) (size : PathSize) (sl
   pub halts_filing : (value : ℕ) → HasRisen m.0.hands.lasting.at_open value
       → CarriesAs shows (noted refused archived dropped (Some value) m.0.hands.lasting)
       m.0.hands.pending m.0.hands.progress m
-      → Allows (Ruled shows o size) slots id m 6 (λ _. value)
-      (λ _. FilingStopped shows (step slots 6 value 0 none) m value)
+      → Allows (Ruled shows o size) slots id m 48 (λ _. value)
+      (λ _. FilingStopped shows (step slots 48 value 0 none) m value)
   halts_filing value risen C s r _ there _ = let x = r.core in let e = Put w Stopped value in
       let above = risen_above m.0.hands.lasting.at_open value risen in
       let h = hands_with (Some value) in let L = core_lawful shows o size s r in

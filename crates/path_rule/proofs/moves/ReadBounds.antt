@@ -37,10 +37,10 @@ module _ {K : Type 0} (shows : K → Lasting) (o : Beside) (size : PathSize) (sl
     (m : Me (Slot K) View) (w : ℕ) (mine : m.0.role ≡ Steps w) where
   pub looks_read : (t : Table) (k : ℕ) (q : FlushRead) → m.0.hands.reading ≡ Some q
       → q.table ≡ t.0 → q.memtable ≡ k → q.retired ≡ false → t.0 < 16 → t.0 < m.0.size.tables
-      → Allows (Ruled shows o size) slots id m (136 + 16 * (k % 4) + t.0) (λ n. n)
-      (BoundRead (step slots (136 + 16 * (k % 4) + t.0) 0 0 none) m)
+      → Allows (Ruled shows o size) slots id m (640 + 16 * (k % 4) + t.0) (λ n. n)
+      (BoundRead (step slots (640 + 16 * (k % 4) + t.0) 0 0 none) m)
   looks_read t k q reads at of unretired few inside s r _ there _ =
-      let n = slice_index s.words (136 + 16 * (k % 4) + t.0) in let x = r.core in
+      let n = slice_index s.words (640 + 16 * (k % 4) + t.0) in let x = r.core in
       let e = Look w (Bound t k) in let L = core_lawful shows o size s r in
       let R = reads_now shows o size s r id w m.0 there mine q reads in
       let passed = subst (λ (y : ℕ × ℕ). HasPassedBarrier x y.0 y.1) (λ i. (at i, of i))
@@ -71,7 +71,7 @@ module _ {K : Type 0} (shows : K → Lasting) (o : Beside) (size : PathSize) (sl
       (shown o size.at_open r.kept_to r.filed r.dropped x) x.claims x.claims x.append x.append
       s.homes s.views r.boxed id w m.0 (view_after m.0 e n) there mine refl refl refl
       (λ i g l _ _. (l, refl)) refl C.append C.issue refl) tt tt
-      (BoundRead (step slots (136 + 16 * (k % 4) + t.0) 0 0 none) m n)
+      (BoundRead (step slots (640 + 16 * (k % 4) + t.0) 0 0 none) m n)
       (λ it z k' u role low q' reads' at' of' word'. let a : t.0 ≡ u.0 = omega arith in
       let same = same_Some q q' (sym reads ∙ reads') in
       each_bound_name shows o size slots id m w mine t k 0

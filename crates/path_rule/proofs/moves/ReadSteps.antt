@@ -326,7 +326,7 @@ module _ {K : Type 0} (shows : K → Lasting) (o : Beside) (size : PathSize) (sl
         (inl (has.6, omega arith, omega arith)))) E
 
     -- the memtable by which it begins is told
-    same_oldest : (t u : Table) (k k' : ℕ) → 8 + 4 * t.0 ≡ 8 + 4 * u.0
+    same_oldest : (t u : Table) (k k' : ℕ) → 64 + 4 * t.0 ≡ 64 + 4 * u.0
         → FlushOldest t.0 m.0.part k → FlushOldest u.0 m.0.part k' → k ≡ k'
     same_oldest t u k k' word oldest oldest' = let a : t.0 ≡ u.0 = omega arith in
         let one = oldest_is shows o size slots id m w mine s r there t.0 k oldest in
@@ -340,10 +340,10 @@ module _ {K : Type 0} (shows : K → Lasting) (o : Beside) (size : PathSize) (sl
 
   begun : (t : Table) (k n : ℕ) (b : Bool) (v' : View) → MadeAs w (Look w (Newest t)) n
       (with_reading (Some (first_read t.0 k b)) m.0.hands) m.0 v' → (z k' : ℕ) (u : Table)
-      → m.0.role ≡ Steps z → 8 + 4 * t.0 ≡ 8 + 4 * u.0 → k ≡ k'
+      → m.0.role ≡ Steps z → 64 + 4 * t.0 ≡ 64 + 4 * u.0 → k ≡ k'
       → MadeAs z (Look z (Newest u)) n (with_reading (Some (first_read u.0 k' b)) m.0.hands) m.0 v'
       × (m.1 ≡ m.1)
-  begun t k n b v' made z k' u role word same = each_table_name shows o size slots id m w mine 8 t
+  begun t k n b v' made z k' u role word same = each_table_name shows o size slots id m w mine 64 t
       (λ z u. MadeAs z (Look z (Newest u)) n
       (with_reading (Some (first_read u.0 k' b)) m.0.hands) m.0 v' × (m.1 ≡ m.1)) (
         subst (λ (j : ℕ). MadeAs w (Look w (Newest t)) n
@@ -354,10 +354,10 @@ module _ {K : Type 0} (shows : K → Lasting) (o : Beside) (size : PathSize) (sl
   -- The boxes of the last retired memtable are emptied from now on.
   pub begins_emptying : (t : Table) (k : ℕ) → MayBeginRead t.0 m.0 (suc k)
       → FlushOldest t.0 m.0.part (suc k) → TakesNone m.0.hands → t.0 < 16 → t.0 < m.0.size.tables
-      → Allows (Ruled shows o size) slots id m (8 + 4 * t.0) (λ n. n)
-      (EmptyingBegun (step slots (8 + 4 * t.0) 0 0 none) m)
+      → Allows (Ruled shows o size) slots id m (64 + 4 * t.0) (λ n. n)
+      (EmptyingBegun (step slots (64 + 4 * t.0) 0 0 none) m)
   begins_emptying t k may oldest unread few inside s r _ there _ =
-      let n = slice_index s.words (8 + 4 * t.0) in let e = Look w (Newest t) in
+      let n = slice_index s.words (64 + 4 * t.0) in let e = Look w (Newest t) in
       let q = first_read t.0 k true in let h = with_reading (Some q) m.0.hands in
       let v' = view_after (with_hands h m.0) e n in
       let did = looked_still s r there (Newest t) few
@@ -381,10 +381,10 @@ module _ {K : Type 0} (shows : K → Lasting) (o : Beside) (size : PathSize) (sl
   -- The least memtable that is not retired is read from now on.
   pub begins_read : (t : Table) (k : ℕ) → FlushOldest t.0 m.0.part k
       → HasEmptied size.seats m.0 t.0 k → t.0 < 16 → t.0 < m.0.size.tables
-      → Allows (Ruled shows o size) slots id m (8 + 4 * t.0) (λ n. n)
-      (ReadBegun (step slots (8 + 4 * t.0) 0 0 none) m)
+      → Allows (Ruled shows o size) slots id m (64 + 4 * t.0) (λ n. n)
+      (ReadBegun (step slots (64 + 4 * t.0) 0 0 none) m)
   begins_read t k oldest has few inside s r _ there _ =
-      let n = slice_index s.words (8 + 4 * t.0) in let e = Look w (Newest t) in
+      let n = slice_index s.words (64 + 4 * t.0) in let e = Look w (Newest t) in
       let q = first_read t.0 k false in let h = with_reading (Some q) m.0.hands in
       let v' = view_after (with_hands h m.0) e n in
       let did = looked_still s r there (Newest t) few
@@ -405,10 +405,10 @@ module _ {K : Type 0} (shows : K → Lasting) (o : Beside) (size : PathSize) (sl
       )
 
   pub ends_read : (t : Table) → TakesNone m.0.hands → t.0 < 16 → t.0 < m.0.size.tables
-      → Allows (Ruled shows o size) slots id m (8 + 4 * t.0) (λ n. n)
-      (ReadEnded (step slots (8 + 4 * t.0) 0 0 none) m)
+      → Allows (Ruled shows o size) slots id m (64 + 4 * t.0) (λ n. n)
+      (ReadEnded (step slots (64 + 4 * t.0) 0 0 none) m)
   ends_read t unread few inside s r _ there _ =
-      let n = slice_index s.words (8 + 4 * t.0) in let e = Look w (Newest t) in
+      let n = slice_index s.words (64 + 4 * t.0) in let e = Look w (Newest t) in
       let h = with_reading None m.0.hands in
       let v' = view_after (with_hands h m.0) e n in
       let did = looked_still s r there (Newest t) few
@@ -419,17 +419,17 @@ module _ {K : Type 0} (shows : K → Lasting) (o : Beside) (size : PathSize) (sl
         keeps,
         tt,
         did.0,
-        λ z u role _ word. each_table_name shows o size slots id m w mine 8 t
+        λ z u role _ word. each_table_name shows o size slots id m w mine 64 t
             (λ z u. MadeAs z (Look z (Newest u)) n (with_reading None m.0.hands) m.0 v'
             × (m.1 ≡ m.1)) ((refl, did.1), refl) z u role word,
       )
 
   pub takes_read : (t : Table) (q : FlushRead) → MayRead size.seats m.0.hands t.0 q
       → t.0 < 16 → t.0 < m.0.size.tables
-      → Allows (Ruled shows o size) slots id m (8 + 4 * t.0) (λ n. n)
-      (ReadTaken (step slots (8 + 4 * t.0) 0 0 none) m)
+      → Allows (Ruled shows o size) slots id m (64 + 4 * t.0) (λ n. n)
+      (ReadTaken (step slots (64 + 4 * t.0) 0 0 none) m)
   takes_read t q reads small inside s r _ there _ =
-      let n = slice_index s.words (8 + 4 * t.0) in let x = r.core in let e = Look w (Newest t) in
+      let n = slice_index s.words (64 + 4 * t.0) in let x = r.core in let e = Look w (Newest t) in
       let M = r.memtables in let box = next_box size.seats q in let held = M.contents box in
       let z = box_read box held q in let h = with_reading (Some z) m.0.hands in
       let v' = view_after (with_hands h m.0) e n in
@@ -470,7 +470,7 @@ module _ {K : Type 0} (shows : K → Lasting) (o : Beside) (size : PathSize) (sl
         takes box home.0,
         home.1,
         did.0,
-        λ z' u p role _ word is. each_table_name shows o size slots id m w mine 8 t
+        λ z' u p role _ word is. each_table_name shows o size slots id m w mine 64 t
             (λ z' u. (ns : List EntryNote) × MadeAs z' (Look z' (Newest u)) n
             (with_reading (Some (box_read (next_box m.0.size.seats p) ns p)) m.0.hands) m.0 v'
             × TookRead (next_box m.0.size.seats p) ns m (v', (box, home.0) ∷ m.1))
@@ -487,10 +487,10 @@ module _ {K : Type 0} (shows : K → Lasting) (o : Beside) (size : PathSize) (sl
   pub gives_read : (t : Table) (q : FlushRead) (b : ℕ) (y : Slot K) (cs : List (ℕ × Slot K))
       → m.0.hands.reading ≡ Some q → q.taken ≡ Some b → m.1 ≡ (b, y) ∷ cs
       → NotesAre y (left_in q) → t.0 < 16 → t.0 < m.0.size.tables
-      → Allows (Ruled shows o size) slots id m (8 + 4 * t.0) (λ n. n)
-      (ReadGiven (step slots (8 + 4 * t.0) 0 0 none) m)
+      → Allows (Ruled shows o size) slots id m (64 + 4 * t.0) (λ n. n)
+      (ReadGiven (step slots (64 + 4 * t.0) 0 0 none) m)
   gives_read t q b y cs is taken holds kept small inside s r _ there _ =
-      let n = slice_index s.words (8 + 4 * t.0) in let x = r.core in let e = Look w (Newest t) in
+      let n = slice_index s.words (64 + 4 * t.0) in let x = r.core in let e = Look w (Newest t) in
       let z = box_seen q in let h = with_reading (Some z) m.0.hands in
       let v' = view_after (with_hands h m.0) e n in
       let R = reads_now shows o size s r id w m.0 there mine q is in let few = R.few in
@@ -531,7 +531,7 @@ module _ {K : Type 0} (shows : K → Lasting) (o : Beside) (size : PathSize) (sl
         gives,
         tt,
         did.0,
-        λ z' u p role _ word is'. each_table_name shows o size slots id m w mine 8 t
+        λ z' u p role _ word is'. each_table_name shows o size slots id m w mine 64 t
             (λ z' u. MadeAs z' (Look z' (Newest u)) n
             (with_reading (Some (box_seen p)) m.0.hands) m.0 v' × (rest m.1 ≡ rest m.1))
             (subst (λ (k : FlushRead). MadeAs w (Look w (Newest t)) n

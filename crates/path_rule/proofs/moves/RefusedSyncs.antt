@@ -169,9 +169,9 @@ module _ {K : Type 0} (shows : K → Lasting) (o : Beside) (size : PathSize) (sl
 
   pub keeps_refused : CarriesAs shows (refused_lasting kept m.0.hands.lasting.stopped
       m.0.hands.lasting) pending m.0.hands.progress m
-      → Allows (Ruled shows o size) slots id m 6 (λ n. n)
-      (RefusedKept shows (step slots 6 0 0 none) m)
-  keeps_refused C s r _ there _ = let n = slice_index s.words 6 in let x = r.core in
+      → Allows (Ruled shows o size) slots id m 48 (λ n. n)
+      (RefusedKept shows (step slots 48 0 0 none) m)
+  keeps_refused C s r _ there _ = let n = slice_index s.words 48 in let x = r.core in
       let e = Look w (CursorWord Stopped) in
       let stopped = m.0.hands.lasting.stopped in
       let h = hands_with stopped in
@@ -218,8 +218,8 @@ module _ {K : Type 0} (shows : K → Lasting) (o : Beside) (size : PathSize) (sl
   pub halts : (value : ℕ) → HasRisen m.0.hands.lasting.at_open value
       → CarriesAs shows (refused_lasting kept (Some value) m.0.hands.lasting) pending
       m.0.hands.progress m
-      → Allows (Ruled shows o size) slots id m 6 (λ _. value)
-      (λ _. StoppedPut shows (step slots 6 value 0 none) m value)
+      → Allows (Ruled shows o size) slots id m 48 (λ _. value)
+      (λ _. StoppedPut shows (step slots 48 value 0 none) m value)
   halts value risen C s r _ there _ = let x = r.core in let e = Put w Stopped value in
       let above = risen_above m.0.hands.lasting.at_open value risen in
       let h = hands_with (Some value) in

@@ -56,8 +56,8 @@ module _ {K : Type 0} (shows : K → Lasting) (o : Beside) (size : PathSize) (sl
   pub retires_empty : (t : Table) (k f : ℕ) → f ≡ suc k → SeesNone size.seats m.0.hands t.0 k
       → t.0 < 16
       → t.0 < m.0.size.tables
-      → Allows (Ruled shows o size) slots id m (10 + 4 * t.0) (λ _. f)
-      (λ _. Retired (step slots (10 + 4 * t.0) f 0 none) m f)
+      → Allows (Ruled shows o size) slots id m (66 + 4 * t.0) (λ _. f)
+      (λ _. Retired (step slots (66 + 4 * t.0) f 0 none) m f)
   retires_empty t k f up sees few inside s r _ there _ = let x = r.core in
       let q = sees.0 in let e = Put w (OldestLive t) f in
       let h = with_reading None m.0.hands in
@@ -117,7 +117,7 @@ module _ {K : Type 0} (shows : K → Lasting) (o : Beside) (size : PathSize) (sl
             (same_reading Q.0 q Q.1 sees.1) ∙ sees.4) ∙ Q.2)))
             (reads_then shows o size s r id w m.0 there mine e refl may tt tt few tt rows f
             f None h refl told (λ z is. absurd (none-some z is))),
-        λ z u role _ word. each_table_name shows o size slots id m w mine 10 t
+        λ z u role _ word. each_table_name shows o size slots id m w mine 66 t
             (λ z u. MadeAs z (Put z (OldestLive u) f) f
             (with_reading None m.0.hands) m.0 v' × (m.1 ≡ m.1)
             × ((was : Was m.0 z (Put z (OldestLive u) f))

@@ -128,8 +128,8 @@ module _ {K : Type 0} (shows : K → Lasting) (o : Beside) (size : PathSize) (sl
   -- the place of the next memtable is cleared
   pub clears_place : (t : Table) (f n : ℕ) → t.0 < 16 → t.0 < m.0.size.tables
       → FlushNewest t.0 m.0.part n → FlushOldest t.0 m.0.part n → f ≡ suc n
-      → Allows (Ruled shows o size) slots id m (136 + 16 * (f % 4) + t.0) (λ _. 0)
-      (λ _. PlaceCleared (step slots (136 + 16 * (f % 4) + t.0) 0 0 none) m 0)
+      → Allows (Ruled shows o size) slots id m (640 + 16 * (f % 4) + t.0) (λ _. 0)
+      (λ _. PlaceCleared (step slots (640 + 16 * (f % 4) + t.0) 0 0 none) m 0)
   clears_place t f n few inside newest oldest up s r _ there _ = let x = r.core in
       let e = Switch w t f Clear in let v' = view_after m.0 e 0 in
       let new = newest_is s r there t.0 n newest in
@@ -148,7 +148,7 @@ module _ {K : Type 0} (shows : K → Lasting) (o : Beside) (size : PathSize) (sl
       (shown o size.at_open r.kept_to r.filed r.dropped x) x.claims x.claims x.append x.append
       s.homes s.views r.boxed
       id w m.0 v' there mine refl refl refl (λ i g l _ _. (l, refl)) refl C.append C.issue refl)
-      tt tt (PlaceCleared (step slots (136 + 16 * (f % 4) + t.0) 0 0 none) m 0)
+      tt tt (PlaceCleared (step slots (640 + 16 * (f % 4) + t.0) 0 0 none) m 0)
       (λ u z h n' q role high newest' up' word. let a : t.0 ≡ q.0 = omega arith in
       let same = newest_is s r there t.0 n' (subst (λ k. FlushNewest k m.0.part n') (sym a) newest')
       in each_bound_name shows o size slots id m w mine t f 0
@@ -158,8 +158,8 @@ module _ {K : Type 0} (shows : K → Lasting) (o : Beside) (size : PathSize) (sl
   pub opens_memtable : (t : Table) (f n : ℕ) → t.0 < 16 → t.0 < m.0.size.tables
       → FlushNewest t.0 m.0.part n → FlushOldest t.0 m.0.part n → f ≡ suc n
       → FlushCleared t.0 m.0.part f → opened_in m.0.trail ≤ issued_in m.0.trail
-      → Allows (Ruled shows o size) slots id m (8 + 4 * t.0) (λ _. f)
-      (λ _. MemtableOpened (step slots (8 + 4 * t.0) f 0 none) m f)
+      → Allows (Ruled shows o size) slots id m (64 + 4 * t.0) (λ _. f)
+      (λ _. MemtableOpened (step slots (64 + 4 * t.0) f 0 none) m f)
   opens_memtable t f n few inside newest oldest up clean small s r _ there _ = let x = r.core in
       let e = Switch w t f Open in let v' = view_after m.0 e f in
       let L = core_lawful shows o size s r in
@@ -189,14 +189,14 @@ module _ {K : Type 0} (shows : K → Lasting) (o : Beside) (size : PathSize) (sl
       (shown o size.at_open r.kept_to r.filed r.dropped x) x.claims x.claims x.append x.append
       s.homes s.views r.boxed
       id w m.0 v' there mine refl refl refl (λ i g l _ _. (l, refl)) refl C.append C.issue refl)
-      tt tt (MemtableOpened (step slots (8 + 4 * t.0) f 0 none) m f)
-      (λ u z q role _ word. each_table_name shows o size slots id m w mine 8 t
+      tt tt (MemtableOpened (step slots (64 + 4 * t.0) f 0 none) m f)
+      (λ u z q role _ word. each_table_name shows o size slots id m w mine 64 t
       (λ z q. Made z (Switch z q f Open) f m (v', m.1)) ((refl, u), refl) z q role word)
 
   pub marks_memtable : (t : Table) (f : ℕ) → t.0 < 16 → t.0 < m.0.size.tables
       → stage_of m.0.part t.0 ≡ Some (Begun (suc f))
-      → Allows (Ruled shows o size) slots id m (136 + 16 * (f % 4) + t.0) (λ _. 2 ^ 62)
-      (λ _. MemtableMarked (step slots (136 + 16 * (f % 4) + t.0) (2 ^ 62) 0 none) m (2 ^ 62))
+      → Allows (Ruled shows o size) slots id m (640 + 16 * (f % 4) + t.0) (λ _. 2 ^ 62)
+      (λ _. MemtableMarked (step slots (640 + 16 * (f % 4) + t.0) (2 ^ 62) 0 none) m (2 ^ 62))
   marks_memtable t f few inside at s r _ there _ = let x = r.core in
       let e = Switch w t f Mark in let v' = view_after m.0 e (2 ^ 62) in
       let L = core_lawful shows o size s r in
@@ -224,7 +224,7 @@ module _ {K : Type 0} (shows : K → Lasting) (o : Beside) (size : PathSize) (sl
       (shown o size.at_open r.kept_to r.filed r.dropped x) x.claims x.claims x.append x.append
       s.homes s.views r.boxed
       id w m.0 v' there mine refl refl refl (λ i g l _ _. (l, refl)) refl C.append C.issue refl)
-      tt tt (MemtableMarked (step slots (136 + 16 * (f % 4) + t.0) (2 ^ 62) 0 none) m (2 ^ 62))
+      tt tt (MemtableMarked (step slots (640 + 16 * (f % 4) + t.0) (2 ^ 62) 0 none) m (2 ^ 62))
       (λ u z h q role high known word.
       let S = same_word shows o size slots id m w mine s r there t q f h few high near known word in
       each_bound_name shows o size slots id m w mine t f 0
@@ -256,11 +256,11 @@ module _ {K : Type 0} (shows : K → Lasting) (o : Beside) (size : PathSize) (sl
       → t.0 < m.0.size.tables
       → stage_of m.0.part t.0
       ≡ Some (MarkedStage (record { memtable = f; key = key; raised = true }))
-      → Allows (Ruled shows o size) slots id m (136 + 16 * (f % 4) + t.0)
+      → Allows (Ruled shows o size) slots id m (640 + 16 * (f % 4) + t.0)
       (λ n. (n + 2 ^ 62) % 2 ^ 64)
-      (MemtableFinal (step slots (136 + 16 * (f % 4) + t.0) (2 ^ 62) 0 none) m)
+      (MemtableFinal (step slots (640 + 16 * (f % 4) + t.0) (2 ^ 62) 0 none) m)
   finalises t f key few inside at s r _ there _ =
-      let i : ℕ = 136 + 16 * (f % 4) + t.0 in let n = slice_index s.words i in let x = r.core in
+      let i : ℕ = 640 + 16 * (f % 4) + t.0 in let n = slice_index s.words i in let x = r.core in
       let L = core_lawful shows o size s r in
       let k : Marked = record { memtable = f; key = key; raised = true } in
       let M = marked_now s r there t.0 k at in

@@ -67,8 +67,8 @@ module _ {K : Type 0} (shows : K → Lasting) (o : Beside) (size : PathSize) (sl
       → IsBarred m.0.hands value
       → IsParted value m.0.hands.pending run left → m.1 ≡ (desk_box, y) ∷ cs
       → DeskIs shows y (more_lasting run value m.0.hands.lasting) left m.0.hands.progress
-      → Allows (Ruled shows o size) slots id m 5 (λ _. value)
-      (λ _. SyncedPut shows (step slots 5 value 0 none) m value)
+      → Allows (Ruled shows o size) slots id m 40 (λ _. value)
+      (λ _. SyncedPut shows (step slots 40 value 0 none) m value)
   syncs value run left y cs turn all empty barred parted holds fits s r _ there _ = let x =
       r.core in let B = r.boxed in let e = Put w Synced value in
       let law = core_lawful shows o size s r in let t = turn.0 in

@@ -82,10 +82,10 @@ module _ {K : Type 0} (shows : K → Lasting) (o : Beside) (size : PathSize) (sl
       (λ i. (same_seat m.0.role w z mine role i, same i)) p
 
   pub takes_flush : (t : Table) → t.0 < 16 → t.0 < m.0.size.tables → IsIdle m.0.part
-      → Allows (Ruled shows o size) slots id m (9 + 4 * t.0) (λ n. either (eqb n 0) 1 n)
-      (FlushTaken (step slots (9 + 4 * t.0) 0 1 none) m)
+      → Allows (Ruled shows o size) slots id m (65 + 4 * t.0) (λ n. either (eqb n 0) 1 n)
+      (FlushTaken (step slots (65 + 4 * t.0) 0 1 none) m)
   takes_flush t few inside idle s r _ there _ =
-      let i : ℕ = 9 + 4 * t.0 in let n = slice_index s.words i in let x = r.core in
+      let i : ℕ = 65 + 4 * t.0 in let n = slice_index s.words i in let x = r.core in
       let then = FlushTaken (step slots i 0 1 none) m n in
       exchanged n 0 1 (λ z. Owes shows o size slots id m w mine s i z then)
       (λ hit. let e = TakeTurn w (Flush t) in
@@ -105,13 +105,13 @@ module _ {K : Type 0} (shows : K → Lasting) (o : Beside) (size : PathSize) (sl
       (shown o size.at_open r.kept_to r.filed r.dropped x) x.claims x.claims x.append x.append
       s.homes s.views r.boxed
       id w m.0 v' there mine refl refl refl (λ i g l _ _. (l, refl)) refl C.append C.issue refl)
-      tt tt then (λ u z q role _ word. each_table_name 9 t
+      tt tt then (λ u z q role _ word. each_table_name 65 t
       (λ z q. (n ≡ 0 → Made z (TakeTurn z (Flush q)) 1 m (v', m.1) × ReadsHeld m.0)
       × (n ≢ 0 → Made z (Look z (TurnWord (Flush q))) n m (v', m.1) × (n ≡ 1)))
       ((λ _. (((refl, u), refl), reads)), (λ miss. absurd (miss hit))) z q role word))
       (λ miss. let v' = view_after m.0 (Look w (TurnWord (Flush t))) n in
       look_owes shows o size slots id m w mine s r there (TurnWord (Flush t)) few inside then
-      (λ made _ z q role _ word. each_table_name 9 t
+      (λ made _ z q role _ word. each_table_name 65 t
       (λ z q. (n ≡ 0 → Made z (TakeTurn z (Flush q)) 1 m (v', m.1) × ReadsHeld m.0)
       × (n ≢ 0 → Made z (Look z (TurnWord (Flush q))) n m (v', m.1) × (n ≡ 1))) (
         (λ hit. absurd (miss hit)),
@@ -200,8 +200,8 @@ module _ {K : Type 0} (shows : K → Lasting) (o : Beside) (size : PathSize) (sl
         × ReadsNone t m.0.hands). k.4) may
 
   pub gives_flush : (t : Table) → t.0 < 16 → t.0 < m.0.size.tables → MayGiveFlush t.0 m.0
-      → Allows (Ruled shows o size) slots id m (9 + 4 * t.0) (λ _. 0)
-      (λ _. FlushGiven (step slots (9 + 4 * t.0) 0 0 none) m 0)
+      → Allows (Ruled shows o size) slots id m (65 + 4 * t.0) (λ _. 0)
+      (λ _. FlushGiven (step slots (65 + 4 * t.0) 0 0 none) m 0)
   gives_flush t few inside through s r _ there _ = let x = r.core in
       let e = GiveTurn w (Flush t) in let v' = view_after m.0 e 0 in
       let may : IsStep x e = record {
@@ -216,6 +216,6 @@ module _ {K : Type 0} (shows : K → Lasting) (o : Beside) (size : PathSize) (sl
       s.homes s.views r.boxed
       id w m.0 v' there mine refl refl refl (λ i g l _ _. (l, refl)) refl C.append C.issue refl)
       tt (reads_none s r there t.0 through)
-      (FlushGiven (step slots (9 + 4 * t.0) 0 0 none) m 0)
-      (λ u z q role _ word. each_table_name 9 t
+      (FlushGiven (step slots (65 + 4 * t.0) 0 0 none) m 0)
+      (λ u z q role _ word. each_table_name 65 t
       (λ z q. Made z (GiveTurn z (Flush q)) 0 m (v', m.1)) ((refl, u), refl) z q role word)

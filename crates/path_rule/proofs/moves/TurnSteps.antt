@@ -49,12 +49,12 @@ module _ {K : Type 0} (shows : K → Lasting) (o : Beside) (size : PathSize) (sl
     (Slot K) View)
     (w : ℕ) (mine : m.0.role ≡ Steps w) where
   pub takes_sync : IsIdle m.0.part → m.0.part.sync ≡ None
-      → Allows (Ruled shows o size) slots id m 7 (λ n. either (eqb n 0) 1 n)
-      (SyncTaken shows (step slots 7 0 1 none) m)
-  takes_sync idle bare s r _ there _ = let n = slice_index s.words 7 in let x = r.core in
+      → Allows (Ruled shows o size) slots id m 56 (λ n. either (eqb n 0) 1 n)
+      (SyncTaken shows (step slots 56 0 1 none) m)
+  takes_sync idle bare s r _ there _ = let n = slice_index s.words 56 in let x = r.core in
       let empty = untaken shows o size s r id w m.0 there mine bare in
-      let then = SyncTaken shows (step slots 7 0 1 none) m n in
-      exchanged n 0 1 (λ z. Owes shows o size slots id m w mine s 7 z then)
+      let then = SyncTaken shows (step slots 56 0 1 none) m n in
+      exchanged n 0 1 (λ z. Owes shows o size slots id m w mine s 56 z then)
       (λ hit. let e = TakeTurn w Sync in let is = as_part shows o size slots id m w mine s r there
       in
       let h = with_desk (shown o size.at_open r.kept_to r.filed r.dropped x) r.boxed.pending
@@ -128,8 +128,8 @@ module _ {K : Type 0} (shows : K → Lasting) (o : Beside) (size : PathSize) (sl
       → issue_of m.0.part ≡ Rest → m.0.hands.box_taken ≡ None
       → m.1 ≡ (desk_box, y) ∷ cs → DeskIs shows y m.0.hands.lasting m.0.hands.pending
       m.0.hands.progress
-      → Allows (Ruled shows o size) slots id m 7 (λ _. 0) (λ _. SyncGiven
-      (step slots 7 0 0 none) m 0)
+      → Allows (Ruled shows o size) slots id m 56 (λ _. 0) (λ _. SyncGiven
+      (step slots 56 0 0 none) m 0)
   gives_sync y cs held rest_now empty holds fits s r _ there _ = let x = r.core in
       let law = core_lawful shows o size s r in let e = GiveTurn w Sync in
       let h = unswept_hands m.0.hands in let v' = view_after (with_hands h m.0) e 0 in

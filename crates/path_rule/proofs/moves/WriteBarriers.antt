@@ -50,8 +50,8 @@ module _ {K : Type 0} (shows : K → Lasting) (o : Beside) (size : PathSize) (sl
       → issue_of m.0.part ≡ Rest → TurnSaw Write m.0.part c → g ≡ suc c
       → TurnOld Write m.0.part d → g ≤ d + 31 → m.0.hands.box_taken ≡ None
       → issued_in m.0.trail < most_issued
-      → Allows (Ruled shows o size) slots id m (72 + 2 * (g % 32)) (λ _. 65536 * g)
-      (λ _. WriteOpened (step slots (72 + 2 * (g % 32)) (65536 * g) 0 none) m (65536 * g))
+      → Allows (Ruled shows o size) slots id m (128 + 16 * (g % 32)) (λ _. 65536 * g)
+      (λ _. WriteOpened (step slots (128 + 16 * (g % 32)) (65536 * g) 0 none) m (65536 * g))
   opens_write g c d waits held calm saw up old near empty fits s r _ there _ = let x = r.core in
       let e = OpenGroup w Write g in let n : ℕ = 65536 * g in let v' = view_after m.0 e n in
       let law = core_lawful shows o size s r in
@@ -161,10 +161,10 @@ module _ {K : Type 0} (shows : K → Lasting) (o : Beside) (size : PathSize) (sl
 
   pub expires_write : (g c : ℕ) → issue_of m.0.part ≡ Moved Write → TurnSaw Write m.0.part c
       → suc g ≡ c → m.0.hands.box_taken ≡ None
-      → Allows (Ruled shows o size) slots id m (72 + 2 * (g % 32)) (λ n. (n + 2 ^ 63) % 2 ^ 64)
-      (WriteExpired (step slots (72 + 2 * (g % 32)) (2 ^ 63) 0 none) m)
+      → Allows (Ruled shows o size) slots id m (128 + 16 * (g % 32)) (λ n. (n + 2 ^ 63) % 2 ^ 64)
+      (WriteExpired (step slots (128 + 16 * (g % 32)) (2 ^ 63) 0 none) m)
   expires_write g c doing saw up empty s r _ there low = let n =
-      slice_index s.words (72 + 2 * (g % 32)) in let x = r.core in let k = tally_of x Write g in
+      slice_index s.words (128 + 16 * (g % 32)) in let x = r.core in let k = tally_of x Write g in
       let e = Expire w Write g in let v' = view_after m.0 e n in
       let law = core_lawful shows o size s r in
       let t = at_issue m.0.part (Moved Write) (λ q. cc) doing in
@@ -208,8 +208,8 @@ module _ {K : Type 0} (shows : K → Lasting) (o : Beside) (size : PathSize) (sl
   pub advances_write : (g d c : ℕ) (t : SyncTurn) → m.0.part.sync ≡ Some t
       → t.write.current ≡ Some c → t.write.oldest ≡ Some d → t.write.finished ≡ Some d → g ≡ suc d
       → g ≤ c → m.0.hands.box_taken ≡ None
-      → Allows (Ruled shows o size) slots id m 2 (λ _. g)
-      (λ _. WriteAdvanced (step slots 2 g 0 none) m g)
+      → Allows (Ruled shows o size) slots id m 16 (λ _. g)
+      (λ _. WriteAdvanced (step slots 16 g 0 none) m g)
   advances_write g d c t sync saw old gone up le empty s r _ there _ = let x = r.core in
       let e = Advance w Write g in let v' = view_after m.0 e g in
       let law = core_lawful shows o size s r in let held = is_held m.0.part.sync t sync in
@@ -244,8 +244,8 @@ module _ {K : Type 0} (shows : K → Lasting) (o : Beside) (size : PathSize) (sl
   -- the same, told by what was found
   pub advances_at : (g d c : ℕ) → TurnSaw Write m.0.part c → TurnOld Write m.0.part d
       → TurnGone Write m.0.part d → g ≡ suc d → g ≤ c → m.0.hands.box_taken ≡ None
-      → Allows (Ruled shows o size) slots id m 2 (λ _. g)
-      (λ _. WriteAdvanced (step slots 2 g 0 none) m g)
+      → Allows (Ruled shows o size) slots id m 16 (λ _. g)
+      (λ _. WriteAdvanced (step slots 16 g 0 none) m g)
   advances_at g d c saw old gone = advances_write g d c saw.0 saw.1 saw.2
       (ap (λ (t : SyncTurn). t.write.oldest) (same (sym saw.1 ∙ old.1)) ∙ old.2)
       (ap (λ (t : SyncTurn). t.write.finished) (same (sym saw.1 ∙ gone.1)) ∙ gone.2)

@@ -40,10 +40,10 @@ module _ {K : Type 0} (shows : K → Lasting) (o : Beside) (size : PathSize) (sl
     (m : Me (Slot K) View) (w : ℕ) (mine : m.0.role ≡ Steps w) where
   pub registers : (g k : ℕ) → IsIdle m.0.part → HoldsNoTurn m.0.part
       → (found_of Write m.0.part).current ≡ Some g → number_in k ≡ g → k < 2 ^ 63
-      → Allows (Ruled shows o size) slots id m (72 + 2 * (g % 32)) (λ n. either (eqb n k) (k + 1) n)
-      (Registered (step slots (72 + 2 * (g % 32)) k (k + 1) none) m)
+      → Allows (Ruled shows o size) slots id m (128 + 16 * (g % 32)) (λ n. either (eqb n k) (k + 1) n)
+      (Registered (step slots (128 + 16 * (g % 32)) k (k + 1) none) m)
   registers g k idle bare saw number low s r _ there _ =
-      let i : ℕ = 72 + 2 * (g % 32) in let n = slice_index s.words i in
+      let i : ℕ = 128 + 16 * (g % 32) in let n = slice_index s.words i in
       let x = r.core in let c = tally_of x Write g in
       let then = Registered (step slots i k (k + 1) none) m n in
       exchanged n k (k + 1) (λ z. Owes shows o size slots id m w mine s i z then)
@@ -86,11 +86,11 @@ module _ {K : Type 0} (shows : K → Lasting) (o : Beside) (size : PathSize) (sl
       ((λ hit. absurd (miss hit)), (λ _. made)) z h role (sym number ∙ told)))
 
   pub stops : (g : ℕ) → m.0.part.write ≡ Some g → m.0.part.append ≡ None → m.0.part.claim ≡ None
-      → Allows (Ruled shows o size) slots id m (72 + 2 * (g % 32))
+      → Allows (Ruled shows o size) slots id m (128 + 16 * (g % 32))
       (λ n. (n + (2 ^ 64 - 1)) % 2 ^ 64)
-      (StoppedBy (step slots (72 + 2 * (g % 32)) 1 0 none) m)
+      (StoppedBy (step slots (128 + 16 * (g % 32)) 1 0 none) m)
   stops g write append claim s r _ there low =
-      let i : ℕ = 72 + 2 * (g % 32) in let n = slice_index s.words i in
+      let i : ℕ = 128 + 16 * (g % 32) in let n = slice_index s.words i in
       let x = r.core in let c = tally_of x Write g in
       let e = Close w Write g Nothing in let is = as_part shows o size slots id m w mine s r there
       in

@@ -25,12 +25,12 @@ use Rattle.path_rule.specs.Turns.{IsKnown}
 abbrev fixed_in : ℕ → Place
 fixed_in n =
     if n == 0 then Current Write
-    else (if n == 1 then Current Append
-    else (if n == 2 then Oldest Write
-    else (if n == 3 then Oldest Append
-    else (if n == 4 then Log
-    else (if n == 5 then CursorWord Synced
-    else (if n == 6 then CursorWord Stopped else TurnWord Sync))))))
+    else (if n == 8 then Current Append
+    else (if n == 16 then Oldest Write
+    else (if n == 24 then Oldest Append
+    else (if n == 32 then Log
+    else (if n == 40 then CursorWord Synced
+    else (if n == 48 then CursorWord Stopped else TurnWord Sync))))))
 
 abbrev table_in : ℕ → ℕ → Place
 table_in kind t =
@@ -88,64 +88,64 @@ module _ (x : PathState) (L : IsLawfulPath x) where
 module _ (count_in bound_in : ℕ → ℕ → Place) where
   abbrev place_in : ℕ → Place
   place_in n =
-      if nat_lt n 8 then fixed_in n
-      else (if nat_lt n 72 then table_in ((n - 8) % 4) ((n - 8) / 4)
-      else (if nat_lt n 136 then count_in ((n - 72) % 2) ((n - 72) / 2)
-      else bound_in ((n - 136) % 16) ((n - 136) / 16)))
+      if nat_lt n 64 then fixed_in n
+      else (if nat_lt n 128 then table_in ((n - 64) % 4) ((n - 64) / 4)
+      else (if nat_lt n 640 then count_in ((n - 128) / 8 % 2) ((n - 128) / 16)
+      else bound_in ((n - 640) % 16) ((n - 640) / 16)))
 
   module _ (n : ℕ) where
     abbrev tables : Place
-    tables = table_in ((n - 8) % 4) ((n - 8) / 4)
+    tables = table_in ((n - 64) % 4) ((n - 64) / 4)
 
     abbrev counts : Place
-    counts = count_in ((n - 72) % 2) ((n - 72) / 2)
+    counts = count_in ((n - 128) / 8 % 2) ((n - 128) / 16)
 
     abbrev bounds : Place
-    bounds = bound_in ((n - 136) % 16) ((n - 136) / 16)
+    bounds = bound_in ((n - 640) % 16) ((n - 640) / 16)
 
-    above_fixed : 8 ≤ n → place_in n
-        ≡ (if nat_lt n 72 then tables else (if nat_lt n 136 then counts else bounds))
+    above_fixed : 64 ≤ n → place_in n
+        ≡ (if nat_lt n 128 then tables else (if nat_lt n 640 then counts else bounds))
     above_fixed low = ap (λ (b : Bool). if b then fixed_in n
-        else (if nat_lt n 72 then tables else (if nat_lt n 136 then counts else bounds)))
-        (le-ltb n 8 low)
+        else (if nat_lt n 128 then tables else (if nat_lt n 640 then counts else bounds)))
+        (le-ltb n 64 low)
 
-    in_tables : 8 ≤ n → n < 72 → place_in n ≡ tables
+    in_tables : 64 ≤ n → n < 128 → place_in n ≡ tables
     in_tables low high = above_fixed low
-        ∙ ap (λ (b : Bool). if b then tables else (if nat_lt n 136 then counts else bounds))
-        (lt-ltb n 72 high)
+        ∙ ap (λ (b : Bool). if b then tables else (if nat_lt n 640 then counts else bounds))
+        (lt-ltb n 128 high)
 
-    above_tables : 72 ≤ n → place_in n ≡ (if nat_lt n 136 then counts else bounds)
+    above_tables : 128 ≤ n → place_in n ≡ (if nat_lt n 640 then counts else bounds)
     above_tables low = above_fixed (omega arith)
-        ∙ ap (λ (b : Bool). if b then tables else (if nat_lt n 136 then counts else bounds))
-        (le-ltb n 72 low)
+        ∙ ap (λ (b : Bool). if b then tables else (if nat_lt n 640 then counts else bounds))
+        (le-ltb n 128 low)
 
-    in_counts : 72 ≤ n → n < 136 → place_in n ≡ counts
+    in_counts : 128 ≤ n → n < 640 → place_in n ≡ counts
     in_counts low high = above_tables low
-        ∙ ap (λ (b : Bool). if b then counts else bounds) (lt-ltb n 136 high)
+        ∙ ap (λ (b : Bool). if b then counts else bounds) (lt-ltb n 640 high)
 
-    in_bounds : 136 ≤ n → place_in n ≡ bounds
+    in_bounds : 640 ≤ n → place_in n ≡ bounds
     in_bounds low = above_tables (omega arith)
-        ∙ ap (λ (b : Bool). if b then counts else bounds) (le-ltb n 136 low)
+        ∙ ap (λ (b : Bool). if b then counts else bounds) (le-ltb n 640 low)
 
-  table_word : (kind t n : ℕ) → n ≡ 8 + kind + 4 * t → kind < 3 → t < 16
+  table_word : (kind t n : ℕ) → n ≡ 64 + kind + 4 * t → kind < 3 → t < 16
       → place_in n ≡ table_in kind t
   table_word kind t n is few low =
-      let k : (n - 8) % 4 ≡ kind = omega arith in
-      let u : (n - 8) / 4 ≡ t = omega arith in
+      let k : (n - 64) % 4 ≡ kind = omega arith in
+      let u : (n - 64) / 4 ≡ t = omega arith in
       in_tables n (omega arith) (omega arith) ∙ (λ i. table_in (k i) (u i))
 
-  count_at : (kind s n : ℕ) → n ≡ 72 + kind + 2 * s → kind < 2 → s < 32
+  count_at : (kind s n : ℕ) → n ≡ 128 + 8 * kind + 16 * s → kind < 2 → s < 32
       → place_in n ≡ count_in kind s
   count_at kind s n is few low =
-      let k : (n - 72) % 2 ≡ kind = omega arith in
-      let h : (n - 72) / 2 ≡ s = omega arith in
+      let k : (n - 128) / 8 % 2 ≡ kind = omega arith in
+      let h : (n - 128) / 16 ≡ s = omega arith in
       in_counts n (omega arith) (omega arith) ∙ (λ i. count_in (k i) (h i))
 
-  bound_word_at : (t k : ℕ) → t < 16 → place_in (136 + 16 * k + t) ≡ bound_in t k
+  bound_word_at : (t k : ℕ) → t < 16 → place_in (640 + 16 * k + t) ≡ bound_in t k
   bound_word_at t k few =
-      let n : ℕ = 136 + 16 * k + t in
-      let u : (n - 136) % 16 ≡ t = omega arith in
-      let v : (n - 136) / 16 ≡ k = omega arith in
+      let n : ℕ = 640 + 16 * k + t in
+      let u : (n - 640) % 16 ≡ t = omega arith in
+      let v : (n - 640) / 16 ≡ k = omega arith in
       in_bounds n (omega arith) ∙ (λ i. bound_in (u i) (v i))
 
 -- The place of a word, told by what was found there.
@@ -170,15 +170,15 @@ module _ (p : Seat) where
   seen_back n (CursorWord Stopped) l k = refl
   seen_back n (TurnWord Sync) l k = refl
   seen_back n (Newest t) l k =
-      table_word (seen_in n) (tried_in p) 0 t.0 (8 + 4 * t.0) (omega arith) (omega arith) l
+      table_word (seen_in n) (tried_in p) 0 t.0 (64 + 4 * t.0) (omega arith) (omega arith) l
   seen_back n (TurnWord (Flush t)) l k =
-      table_word (seen_in n) (tried_in p) 1 t.0 (9 + 4 * t.0) (omega arith) (omega arith) l
+      table_word (seen_in n) (tried_in p) 1 t.0 (65 + 4 * t.0) (omega arith) (omega arith) l
   seen_back n (CursorWord (OldestLive t)) l k =
-      table_word (seen_in n) (tried_in p) 2 t.0 (10 + 4 * t.0) (omega arith) (omega arith) l
+      table_word (seen_in n) (tried_in p) 2 t.0 (66 + 4 * t.0) (omega arith) (omega arith) l
   seen_back n (Count Write g) l k = count_at (seen_in n) (tried_in p) 0 (g % 32)
-      (72 + 2 * (g % 32)) (omega arith) (omega arith) (omega arith)
+      (128 + 16 * (g % 32)) (omega arith) (omega arith) (omega arith)
   seen_back n (Count Append g) l k = count_at (seen_in n) (tried_in p) 1 (g % 32)
-      (73 + 2 * (g % 32)) (omega arith) (omega arith) (omega arith)
+      (136 + 16 * (g % 32)) (omega arith) (omega arith) (omega arith)
   seen_back n (Bound t m) l k = bound_word_at (seen_in n) (tried_in p) t.0 (m % 4) l
       ∙ ap (λ (o : Option ℕ). Bound t (option_map_or (λ (m : ℕ). m) o 0)) k
 
@@ -206,17 +206,17 @@ module _ (x : PathState) (L : IsLawfulPath x) where
   place_back (CursorWord Stopped) l = refl
   place_back (TurnWord Sync) l = refl
   place_back (Newest t) l =
-      table_word late_at near_at 0 t.0 (8 + 4 * t.0) (omega arith) (omega arith) l
+      table_word late_at near_at 0 t.0 (64 + 4 * t.0) (omega arith) (omega arith) l
   place_back (TurnWord (Flush t)) l =
-      table_word late_at near_at 1 t.0 (9 + 4 * t.0) (omega arith) (omega arith) l
+      table_word late_at near_at 1 t.0 (65 + 4 * t.0) (omega arith) (omega arith) l
   place_back (CursorWord (OldestLive t)) l =
-      table_word late_at near_at 2 t.0 (10 + 4 * t.0) (omega arith) (omega arith) l
+      table_word late_at near_at 2 t.0 (66 + 4 * t.0) (omega arith) (omega arith) l
   place_back (Count Write g) l =
-      count_at late_at near_at 0 (g % 32) (72 + 2 * (g % 32)) (omega arith) (omega arith)
+      count_at late_at near_at 0 (g % 32) (128 + 16 * (g % 32)) (omega arith) (omega arith)
       (omega arith)
       ∙ ap (Count Write) (late_back (length x.write.tallies) g l.0 l.1)
   place_back (Count Append g) l =
-      count_at late_at near_at 1 (g % 32) (73 + 2 * (g % 32)) (omega arith) (omega arith)
+      count_at late_at near_at 1 (g % 32) (136 + 16 * (g % 32)) (omega arith) (omega arith)
       (omega arith)
       ∙ ap (Count Append) (late_back (length x.append.tallies) g l.0 l.1)
   place_back (Bound t m) l = bound_word_at late_at near_at t.0 (m % 4) l.0
@@ -242,7 +242,7 @@ shown_word x (Count o g) l = tt
 shown_word x (Bound t m) l = l.0
 
 -- Each place of the layout has a word in the table.
-pub in_rows : (a : Place) → IsWord a → word_at a < 200
+pub in_rows : (a : Place) → IsWord a → word_at a < 704
 in_rows (Current Write) l = omega arith
 in_rows (Current Append) l = omega arith
 in_rows (Oldest Write) l = omega arith

@@ -56,7 +56,7 @@ module _ {K : Type 0} (shows : K → Lasting) (o : Beside) where
     run = refl;
     built = tt;
     fit = fit;
-    wide = length-set {A = ℕ} (replicate 200 0) 4 28 ∙ length-replicate {A = ℕ} 200 0;
+    wide = length-set {A = ℕ} (replicate 704 0) 32 28 ∙ length-replicate {A = ℕ} 704 0;
     rows = record {
       groups = λ o. few o;
       memtables = λ t. subst

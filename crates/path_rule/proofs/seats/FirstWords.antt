@@ -78,12 +78,12 @@ module _ (size : PathSize) where
 
   pub first_word : IsFit size → (p : Place) → IsShown (start_of size) p
       → slice_index first_words (word_at p) ≡ word_for p (reading (start_of size) p)
-  first_word fit p word = dite (ℕ_discrete (word_at p) 4)
+  first_word fit p word = dite (ℕ_discrete (word_at p) 32)
       (λ is. let same = same_place (start_of size)
       (opening_lawful size.tables size.seats size.capacity
       size.ordinals size.base fit) p Log word tt is in
       subst (λ q. slice_index first_words (word_at q) ≡ word_for q (reading (start_of size) q))
-      (sym same) (get_or-set_same (replicate 200 0) 4 28 0
-      (let l = length-replicate {A = ℕ} 200 0 in omega arith)))
-      (λ apart. get_or-set_other (replicate 200 0) 4 (word_at p) 28 0 apart
-      ∙ (same_all 200 (word_at p) 0 ∙ sym (zero_read p word (λ e. apart (ap word_at e)))))
+      (sym same) (get_or-set_same (replicate 704 0) 32 28 0
+      (let l = length-replicate {A = ℕ} 704 0 in omega arith)))
+      (λ apart. get_or-set_other (replicate 704 0) 32 (word_at p) 28 0 apart
+      ∙ (same_all 704 (word_at p) 0 ∙ sym (zero_read p word (λ e. apart (ap word_at e)))))

@@ -166,9 +166,9 @@ module _ {K : Type 0} (shows : K → Lasting) (o : Beside) where
   -- the words tell of how many memtables there are, and the bounds below the newest ones
   pub few_words : (key : PathSize) (id : ℕ) (v : View) (ws : List ℕ) (xs : List (Slot K))
       → Final (Seen (Ruled shows o key) id v) ws xs
-      → (t : ℕ) → t < 16 → slice_index ws (8 + 4 * t) ≤ 2 ^ 47
+      → (t : ℕ) → t < 16 → slice_index ws (64 + 4 * t) ≤ 2 ^ 47
   few_words key id v ws xs f t inside = let r : Ruled shows o key f.0 = f.1.0 in
-      subst (λ (l : List ℕ). slice_index l (8 + 4 * t) ≤ 2 ^ 47) f.2
+      subst (λ (l : List ℕ). slice_index l (64 + 4 * t) ≤ 2 ^ 47) f.2
       (few_newest r.core (core_lawful shows o key f.0 r) r.rows f.0.words r.words t inside)
 
   tells_them : (key : PathSize) (id : ℕ) (v : View) (ws : List ℕ) (xs : List (Slot K))
@@ -184,7 +184,7 @@ module _ {K : Type 0} (shows : K → Lasting) (o : Beside) where
   pub ends_by : (size key : PathSize) (id w log : ℕ) (keeper : Holding) (v : View) (ws : List ℕ)
       (xs : List (Slot K)) → key ≡ size → v.role ≡ Steps w → HasAll key.seats w v.returned
       → HoldsNoTurn v.part → (f : Final (Seen (Ruled shows o key) id v) ws xs)
-      → get_elem? ws 4 ≡ some log
+      → get_elem? ws 32 ≡ some log
       → lasting_of keeper ≡ shown o key.at_open f.1.0.kept_to f.1.0.filed f.1.0.dropped f.1.0.core
       → (bounds : TableBounds)
       → ((t : ℕ) → t < 16 → slice_index bounds.keys t ≡ last_key ws t)
@@ -205,8 +205,8 @@ module _ {K : Type 0} (shows : K → Lasting) (o : Beside) where
           built = ran.1;
           lawful = core_lawful shows o key s r;
           rows = r.rows;
-          log_is = sym (at_four ws 4 log e) ∙
-              (ap (λ (l : List ℕ). slice_index l 4) (sym f.2) ∙ r.words Log tt);
+          log_is = sym (at_four ws 32 log e) ∙
+              (ap (λ (l : List ℕ). slice_index l 32) (sym f.2) ∙ r.words Log tt);
           kept_to = r.kept_to;
           may_be_kept = r.may_be_kept;
           filed = r.filed;
@@ -254,7 +254,7 @@ module _ {K : Type 0} (shows : K → Lasting) (o : Beside) where
 
   pub ends_unmade : (size key : PathSize) (id log : ℕ) (keeper : Holding) (v : View) (ws : List ℕ)
       (xs : List (Slot K)) → key ≡ size → v.role ≡ Opener 0
-      → (f : Final (Seen (Ruled shows o key) id v) ws xs) → get_elem? ws 4 ≡ some log
+      → (f : Final (Seen (Ruled shows o key) id v) ws xs) → get_elem? ws 32 ≡ some log
       → lasting_of keeper ≡ shown o key.at_open f.1.0.kept_to f.1.0.filed f.1.0.dropped f.1.0.core
       → (bounds : TableBounds)
       → ((t : ℕ) → t < 16 → slice_index bounds.keys t ≡ last_key ws t)
@@ -268,7 +268,7 @@ module _ {K : Type 0} (shows : K → Lasting) (o : Beside) where
       subst (λ (es : List Event). Past (start_of key) es r.core) no_step r.run in
       let core : r.core ≡ start_of size = sym core_is ∙ ap start_of same in (
         (
-          sym (at_four ws 4 log e) ∙ (ap (λ (l : List ℕ). slice_index l 4) (sym f.2)
+          sym (at_four ws 32 log e) ∙ (ap (λ (l : List ℕ). slice_index l 32) (sym f.2)
               ∙ (r.words Log tt ∙ ap (λ (x : PathState). x.log) core)),
           kept ∙ (λ i. shown o ((ap (λ (z : PathSize). z.at_open) same) i) r.kept_to
               ((r.unstepped no_step).0 i) ((r.unstepped no_step).1 i) (core i)),

@@ -49,15 +49,15 @@ set_there (x ∷ xs) (suc i) (suc j) v apart = set_there xs i j v (λ e. apart (
 
 -- ---- the key below the newest memtable, as words tell it
 
-pub at_first : (words : List ℕ) (t n : ℕ) → slice_index words (8 + 4 * t) ≡ n → n ≡ 0
+pub at_first : (words : List ℕ) (t n : ℕ) → slice_index words (64 + 4 * t) ≡ n → n ≡ 0
     → 0 ≡ last_key words t
 at_first words t n is none = sym (ap (λ (k : ℕ). key_below words t k) (is ∙ none))
 
-pub at_later : (words : List ℕ) (t n w : ℕ) → slice_index words (8 + 4 * t) ≡ n → n ≢ 0
-    → slice_index words (136 + 16 * ((n - 1) % 4) + t) ≡ w → w % 2 ^ 62 ≡ last_key words t
+pub at_later : (words : List ℕ) (t n w : ℕ) → slice_index words (64 + 4 * t) ≡ n → n ≢ 0
+    → slice_index words (640 + 16 * ((n - 1) % 4) + t) ≡ w → w % 2 ^ 62 ≡ last_key words t
 at_later words t zero w is made at = absurd (made refl)
 at_later words t (suc m) w is made at =
-    let place : 136 + 16 * ((suc m - 1) % 4) + t ≡ 136 + 16 * (m % 4) + t = omega arith in
+    let place : 640 + 16 * ((suc m - 1) % 4) + t ≡ 640 + 16 * (m % 4) + t = omega arith in
     sym (ap (λ (k : ℕ). key_below words t k) is
     ∙ ap (λ (k : ℕ). k % 2 ^ 62) (ap (λ (k : ℕ). slice_index words k) (sym place) ∙ at))
 
@@ -76,10 +76,10 @@ module _ (x : PathState) (L : IsLawfulPath x) (rows : HasRows x) (words : List �
       let few = rows.memtables t in omega arith
 
   -- the newest memtable, as its word tells it
-  newest_is : (t : ℕ) → t < 16 → slice_index words (8 + 4 * t) ≡ (table_of x t).newest
+  newest_is : (t : ℕ) → t < 16 → slice_index words (64 + 4 * t) ≡ (table_of x t).newest
   newest_is t inside = reads (Newest (record { 0 = t })) inside
 
-  pub few_newest : (t : ℕ) → t < 16 → slice_index words (8 + 4 * t) ≤ 2 ^ 47
+  pub few_newest : (t : ℕ) → t < 16 → slice_index words (64 + 4 * t) ≤ 2 ^ 47
   few_newest t inside = let is = newest_is t inside in let few = few_made t in omega arith
 
   below_is : (t n : ℕ) → t < 16 → (table_of x t).newest ≡ n

@@ -29,7 +29,7 @@ load-word-requires g c = let t = c.args.self.now in let m = c.args.member.now in
           m.seat.me m.number m.role (Bound c.args.table c.args.memtable) (omega arith) (
             subst (λ (z : PathSize). c.args.table.0 < z.tables) (sym c.requires.table.1) there,
             known.1,
-          ) (136 + 16 * (c.args.memtable % 4) + c.args.table.0) refl,
+          ) (640 + 16 * (c.args.memtable % 4) + c.args.table.0) refl,
     )
 
 pub invariant_of-member : goal.invariant_of-member
