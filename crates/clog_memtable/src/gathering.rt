@@ -12,8 +12,8 @@ use path_core::EntryNote;
 use std::alloc::Global;
 use std::collections::LinkedList;
 
-/// Puts the cells that these entries have of a table, behind what other entries had put there. Where
-/// memory is refused a part may be put, and the entries stay as they are.
+/// Puts the cells that these entries have of a table, behind what other entries had put there.
+/// Where memory is refused a part may be put, and the entries stay as they are.
 pub fn gather(
     alloc: Global,
     cells: &mut CellBatches,

@@ -68,7 +68,8 @@ pub(crate) fn keeper_and_log<K: Keeper + Drop>(
 ) -> (K, u64, TableBounds)
     requires full { IsFull closed.words × IsFull closed.slots }
     requires words { 704 ≤ slots_len closed.words }
-    requires few { (t : ℕ) → t < 16 → slice_index (slots_items closed.words) (64 + 4 * t) ≤ numbers_end }
+    requires few { (t : ℕ) → t < 16
+        → slice_index (slots_items closed.words) (64 + 4 * t) ≤ numbers_end }
     requires boxes { 0 < slots_len closed.slots }
     requires desk { (keeper : K) × HasInFront keeper (slots_items closed.slots) }
     ensures keeper { (keeper : K) → HasInFront keeper (slots_items closed.slots)

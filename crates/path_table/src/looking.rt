@@ -1,7 +1,7 @@
 //! What a seat that waits looks at, without the Sync turn: how far the log is lasting, which group
-//! of the write order is the oldest one, and whether the turn is free. The synced key only grows, so
-//! what is lasting when a seat looks stays so: a sync made by another seat serves all that wait for a
-//! key at or below it (`CommitLogSegment.waitForSync`).
+//! of the write order is the oldest one, and whether the turn is free. The synced key only grows,
+//! so what is lasting when a seat looks stays so: a sync made by another seat serves all that wait
+//! for a key at or below it (`CommitLogSegment.waitForSync`).
 ghost use Rattle.std.specs.Prelude.{◌≡◌, ℕ, Some};
 ghost use Rattle.op_core.specs.declared.count.Order.TheVariants.{Write};
 ghost use Rattle.path_core.specs.declared.event.Cursor.TheVariants.{Synced};

@@ -1,5 +1,5 @@
-//! Syncs of a path on which nothing was written, and of one on which two seats wrote: each waits for
-//! the end of its own last write.
+//! Syncs of a path on which nothing was written, and of one on which two seats wrote: each waits
+//! for the end of its own last write.
 use crate::commits::{DELETION, done, one_seat, place, prepared};
 use crate::issuing::may_issue;
 use crate::turns::two_seats;

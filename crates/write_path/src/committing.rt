@@ -39,7 +39,8 @@ impl<K: Keeper, A: Allocator> WritePath<K, A> {
     pub fn append<R: Wait>(&self, rt: &R, seat: Begun<K>) -> Appending<K>
         requires { IsOf self.now.table.table.shared.table_id self.now.table.size seat.member }
         ensures { KeepsMemtables self.now.table.table.shared.table_id self.now.table.size
-            seat.member result.member × (result.writing ≡ seat.group) × (result.group < numbers_end) }
+            seat.member result.member × (result.writing ≡ seat.group)
+            × (result.group < numbers_end) }
     {
         let mut seat = seat;
         for _ in rt.forever() {

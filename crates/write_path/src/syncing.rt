@@ -24,8 +24,8 @@ use std::alloc::{Allocator, Global};
 use std::sync::Wait;
 
 impl<K: Keeper, A: Allocator> WritePath<K, A> {
-    // One round of a sync, where the Sync turn is free; the turn is given back. `None` where another
-    // seat has the turn, or left the last marker without a barrier.
+    // One round of a sync, where the Sync turn is free; the turn is given back. `None` where
+    // another seat has the turn, or left the last marker without a barrier.
     fn sync_free<R: Wait>(
         &self,
         rt: &R,

@@ -57,7 +57,8 @@ fn copy_of_key(alloc: Global, key: &CellKey) -> Result<CellKey, OutOfMemory>
 // Puts a copy in the place of a cell that is not newer.
 fn renew(alloc: Global, found: &mut Cell, cell: LentCell<'_>) -> Result<(), OutOfMemory>
     ensures renewed { OnOk result
-        (found.new ≡ (if is_newer (cell_lent cell.entry) found.old then cell_lent cell.entry else found.old)) }
+        (found.new ≡ (if is_newer (cell_lent cell.entry) found.old then cell_lent cell.entry
+        else found.old)) }
     ensures unchanged { OnErr result (found.new ≡ found.old) }
 {
     if !lent_newer(cell, found) {
@@ -110,7 +111,8 @@ impl CellMap {
     /// Merges one cell as `put` does, and copies it, and its key, only where it is kept. After a
     /// refusal the map is as it was.
     pub fn put_lent(&mut self, key: &CellKey, cell: LentCell<'_>) -> Result<(), OutOfMemory>
-        ensures { OnOk result (IsMerge (self.old ++ (key.now, cell_lent cell.entry) ∷ []) self.new) }
+        ensures { OnOk result
+            (IsMerge (self.old ++ (key.now, cell_lent cell.entry) ∷ []) self.new) }
     {
         put_lent(self.alloc, &mut self.cells, key, cell)
     }

@@ -101,7 +101,8 @@ module _ {K : Type 0} (shows : K → Lasting) (o : Beside) (size : PathSize) (sl
   pub joins : (g k : ℕ) → IsSome m.0.part.write → m.0.part.append ≡ None → m.0.part.claim ≡ None
       → HoldsNoTurn m.0.part → (found_of Append m.0.part).current ≡ Some g → number_in k ≡ g
       → k < 2 ^ 63
-      → Allows (Ruled shows o size) slots id m (136 + 16 * (g % 32)) (λ n. either (eqb n k) (k + 1) n)
+      → Allows (Ruled shows o size) slots id m (136 + 16 * (g % 32))
+      (λ n. either (eqb n k) (k + 1) n)
       (Joined (step slots (136 + 16 * (g % 32)) k (k + 1) none) m)
   joins g k write outside unclaimed bare saw number low s r _ there _ =
       let i : ℕ = 136 + 16 * (g % 32) in let n = slice_index s.words i in let x = r.core in

@@ -237,8 +237,10 @@ module _ {K : Type 0} (shows : K → Lasting) (o : Beside) (size : PathSize) (sl
         (set s.views id told_view)
     memtables_told = memtables_stay size.seats x.notes x.notes x.placed x.placed x.tables
         (next_of x e).tables s.homes s.views r.memtables id m.0 told_view there (λ n h. h) s.homes
-        (λ b low. refl) refl refl refl (subst (PutsAs r.memtables.contents size.seats m.0.part told_desk) (sym mine)
-        (puts_stay r.memtables.contents size.seats w m.0.part m.0.part m.0.hands told_desk refl refl
+        (λ b low. refl) refl refl refl
+        (subst (PutsAs r.memtables.contents size.seats m.0.part told_desk) (sym mine)
+        (puts_stay r.memtables.contents size.seats w m.0.part m.0.part m.0.hands told_desk refl
+        refl
         (λ u j place. place) (refl, refl, refl, refl)
         (puts_now shows o size s r id w m.0 there mine)))
         (λ p h live. r.memtables.kept p h (kept_before shows o size s r e may_now tt p live))

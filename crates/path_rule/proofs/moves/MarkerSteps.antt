@@ -51,7 +51,8 @@ module _ {K : Type 0} (shows : K → Lasting) (o : Beside) (size : PathSize) (sl
       → MovesLog Marker m.0.size.capacity m.0.size.ordinals from to
       → Allows (Ruled shows o size) slots id m 32 (λ n. either (eqb n from) to n)
       (MarkerClaimed (step slots 32 from to none) m)
-  claims_marker from to held empty runs moved moves s r _ there _ = let n = slice_index s.words 32 in
+  claims_marker from to held empty runs moved moves s r _ there _ =
+      let n = slice_index s.words 32 in
       let x = r.core in let B = r.boxed in let found : n ≡ x.log = r.words Log tt in
       let then = MarkerClaimed (step slots 32 from to none) m n in
       exchanged n from to (λ z. Owes shows o size slots id m w mine s 32 z then)

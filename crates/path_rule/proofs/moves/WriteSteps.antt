@@ -40,7 +40,8 @@ module _ {K : Type 0} (shows : K → Lasting) (o : Beside) (size : PathSize) (sl
     (m : Me (Slot K) View) (w : ℕ) (mine : m.0.role ≡ Steps w) where
   pub registers : (g k : ℕ) → IsIdle m.0.part → HoldsNoTurn m.0.part
       → (found_of Write m.0.part).current ≡ Some g → number_in k ≡ g → k < 2 ^ 63
-      → Allows (Ruled shows o size) slots id m (128 + 16 * (g % 32)) (λ n. either (eqb n k) (k + 1) n)
+      → Allows (Ruled shows o size) slots id m (128 + 16 * (g % 32))
+      (λ n. either (eqb n k) (k + 1) n)
       (Registered (step slots (128 + 16 * (g % 32)) k (k + 1) none) m)
   registers g k idle bare saw number low s r _ there _ =
       let i : ℕ = 128 + 16 * (g % 32) in let n = slice_index s.words i in
