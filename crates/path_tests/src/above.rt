@@ -11,7 +11,6 @@ ghost use Rattle.write_path.specs.Ends.{IsSameWrite, IsUntriedFrom};
 ghost use Rattle.write_path.specs.Writes.{IsPrepared};
 
 use crate::commits::{done, place_of};
-use crate::issuing::may_issue;
 use crate::turns::find_flush;
 use clog_base::{Key, Position, Sizes, Table};
 use path_core::Keeper;
@@ -19,7 +18,9 @@ use std::alloc::Global;
 use std::sync::Wait;
 use std::test::*;
 use std::thread::yield_now;
-use write_path::{Accept, Appending, Deposited, PathSeat, Prepared, TryClaim, WritePath};
+use write_path::{
+    Accept, Appending, Deposited, MOST_ISSUED, PathSeat, Prepared, TryClaim, WritePath,
+};
 
 // The oldest live memtable of table 0 refuses a write, and the next one takes it. It tells the one
 // that refused, and its bound.
@@ -88,7 +89,9 @@ fn end_above<R: Wait, K: Keeper>(
     let (seat, refused, bound) = ask_two(path, seat)?;
     let seat = path.apply(seat, Table(0), refused + 1, &mut rest);
     let (beside, turn) = find_flush(path, beside, 0);
-    may_issue(&beside).ok()?;
+    if beside.issued() > MOST_ISSUED {
+        return None;
+    }
     let (_beside, answer) = path.sync(rt, alloc, beside);
     let _seat = path.finish(seat);
     Some(Late {
