@@ -5,7 +5,8 @@
 # sync take on the same device, by dd. Then the same by 8 and 64 writers beside three processes that
 # keep a processor busy each. Needs GNU time and a built program. No part of the gate.
 #
-#     batch.sh [PROGRAM ..]      several programs, as before and after a change, take turns
+#     batch.sh [PROGRAM ..]      several programs, as before and after a change, take turns; their
+#                                paths are absolute
 set -e
 top=$(cd "$(dirname "$0")/.." && pwd)
 . "$top/bench/setup.sh"
@@ -38,7 +39,9 @@ run() {
     /usr/bin/time -f '%U %S' -o "$work/time" "$1" apply --sync batch --writers "$2" \
         <"$work/lines" >"$work/out"
     end=$(date +%s%N)
-    echo "$(((end - start) / 1000)) $(awk '{ print 1e6 * ($1 + $2) }' "$work/time") $(sections)"
+    cpu=$(awk '{ print 1e6 * ($1 + $2) }' "$work/time")
+    parts=$(sections)
+    echo "$(((end - start) / 1000)) $cpu $parts"
 }
 
 # One line for each program, of its best run; the programs take turns.
@@ -67,11 +70,12 @@ for writers in 1 8 64; do
     measure $writers ''
 done
 busy=
+trap 'kill $busy; rm -rf "$work"' EXIT
+trap 'exit 1' HUP INT TERM
 for each in 1 2 3; do
-    while :; do :; done &
+    while kill -0 $$; do :; done &
     busy="$busy $!"
 done
-trap 'kill $busy; rm -rf "$work"' EXIT
 for writers in 8 64; do
     measure $writers ' beside three busy processes'
 done

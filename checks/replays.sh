@@ -54,6 +54,7 @@ shrunk() {
         grep -q 'stopped by SIGSTOP' trace && break
         sleep 0.1
     done
+    grep -q 'stopped by SIGSTOP' trace || kill -KILL "$(cat pid)"
     truncate -s 65536 "commitlog/$name"
     kill -CONT "$(cat pid)"
     wait $!
