@@ -1,6 +1,6 @@
 //! A flush and a write that began before the flush's barrier, in two threads: the write goes on
 //! above the flush's bound, the flush waits until it has ended, and only the next flush's file has
-//! it. Another seat's sync does not wait for the write.
+//! it. Another seat's sync, which makes a round of its own, does not wait for the write.
 ghost use Rattle.std.specs.Prelude.{◌≡◌, ◌<◌, true, IfOk};
 ghost use Rattle.clog_mutation.specs.declared.mutation.Mutation.{Mutation};
 ghost use Rattle.path_rule.specs.Layout.{numbers_end};
@@ -83,7 +83,8 @@ fn begun<K: Keeper>(path: &WritePath<K, Global>, seat: PathSeat<K>) -> Result<Ap
     }
 }
 
-// One thread flushes table 0 behind a commit, and the other goes on with a write that began before.
+// One thread flushes table 0 behind two commits, and the other goes on with a write that began
+// before.
 fn flush_beside_write<R: Threads + Wait + Sync>(
     rt: &R,
     alloc: Global,
@@ -92,11 +93,14 @@ fn flush_beside_write<R: Threads + Wait + Sync>(
         return Err(Fail::new("no sizes"));
     };
     let early = prepared(alloc, sizes, 1, DELETION)?;
+    let beside = prepared(alloc, sizes, 3, DELETION)?;
     let write = prepared(alloc, sizes, 2, DELETION)?;
     let (path, zero, one, two) = three_filing(alloc, sizes)?;
     let path = &path;
     may_issue(&zero)?;
     let (zero, _commit) = path.commit(rt, alloc, zero, early, &OpenGate::new());
+    may_issue(&two)?;
+    let (two, _commit) = path.commit(rt, alloc, two, beside, &OpenGate::new());
     let one = begun(path, one)?;
     let (files, late) = thread::join(
         rt,
@@ -120,14 +124,14 @@ fn flush_beside_write<R: Threads + Wait + Sync>(
 fn a_write_above_a_bound_goes_to_the_next_memtable(rt: HostRuntime) -> Result<(), Fail> {
     let ([first, second], late) = flush_beside_write(&rt, rt.alloc())?;
     let wanted = Late {
-        end: place(92),
+        end: place(124),
         refused: 0,
-        bound: place(60),
+        bound: place(92),
         turn: 1,
-        synced: Some(place(92)),
+        synced: Some(place(124)),
     };
     let files = [flushed(first), flushed(second)];
-    let intervals = [Some((0, place(60))), Some((60, place(100)))];
+    let intervals = [Some((0, place(92))), Some((92, place(132)))];
     assert_eq!(&rt; (late, files), (Some(wanted), intervals));
     Ok(())
 }

@@ -9,3 +9,13 @@ commit-zero-requires-clause-prepared g c = (
   c.in_ok-path.ensures.sized.0,
   c.in_ok-path.ensures.sized.1,
 )
+
+pub commit-two-requires-clause-prepared : goal.commit-two-requires-clause-prepared
+commit-two-requires-clause-prepared g c = (
+  c.in-Some.sizes,
+  3,
+  c.in_ok-beside.ensures.0,
+  c.in_ok-beside.ensures.1,
+  c.in_ok-path.ensures.sized.0,
+  c.in_ok-path.ensures.sized.1,
+)
