@@ -18,6 +18,7 @@ retire_read-member-requires-clause-sees g c = let S = c.requires.sees in (
   S.4,
   S.5,
   S.6,
+  S.7,
 )
 
 pub end_flush-requires-clause-holds : goal.end_flush-requires-clause-holds

@@ -7,11 +7,8 @@ use Rattle.path_flush.proofs.SwitchGoes.{retires_behind}
 use Rattle.path_flush.proofs.switching.settle.Goals as goal
 
 pub start_read-member-requires-clause-there : goal.start_read-member-requires-clause-there
-start_read-member-requires-clause-there g c = (
-  subst (λ (z : PathSize). c.args.table.0 < z.tables) c.requires.table.1
-      c.requires.holds.holder.there,
-  c.requires.there,
-)
+start_read-member-requires-clause-there g c = subst (λ (z : PathSize). c.args.table.0 < z.tables)
+    c.requires.table.1 c.requires.holds.holder.there
 
 pub start_read-member-requires-clause-stage : goal.start_read-member-requires-clause-stage
 start_read-member-requires-clause-stage g c = let D = c.requires.drained in
