@@ -15,6 +15,11 @@ Pairs = List (CellKey × Cell)
 
 module _ (rows new : Pairs) (key : CellKey) (cell found : Cell) (s : AreInOrder rows)
     (there : found_at rows key ≡ Some found) where
+  pub same : (w : Cell) → w ≡ found → new ≡ set_value (is_at (key_cmp key)) rows w → new ≡ rows
+  same w e set =
+      set ∙ ap (set_value (is_at (key_cmp key)) rows) e
+      ∙ set_value_same (is_at (key_cmp key)) rows found there
+
   by_case : (newer : Bool) → is_newer cell found ≡ newer → (w : Cell)
       → w ≡ (if newer then cell else found)
       → AreInOrder new → new ≡ set_value (is_at (key_cmp key)) rows w
@@ -26,10 +31,7 @@ module _ (rows new : Pairs) (key : CellKey) (cell found : Cell) (s : AreInOrder 
       (subst (λ (x : Cell). (q : CellKey) → found_at new q
       ≡ cond (is_at (key_cmp key) q) (Some x) (found_at rows q)) e updates)
   by_case false is w e t set updates =
-      let same : new ≡ rows =
-      set ∙ ap (set_value (is_at (key_cmp key)) rows) e
-      ∙ set_value_same (is_at (key_cmp key)) rows found there in
-      subst (IsMerge (rows ++ (key, cell) ∷ [])) (sym same)
+      subst (IsMerge (rows ++ (key, cell) ∷ [])) (sym (same w e set))
       (kept rows key cell found s there is)
 
   pub renewed : (w : Cell) → w ≡ (if is_newer cell found then cell else found)

@@ -34,6 +34,7 @@ use crate::newest::newer;
 use crate::parting::take_below;
 use clog_base::{Cell, CellKey, OutOfMemory, Table, Text};
 pub use lending::LentCell;
+use lending::{copy_of_cell, copy_of_key};
 use std::alloc::{AllocFailed, Global};
 use std::collections::BTreeMap;
 use std::marker::Model;
@@ -235,17 +236,12 @@ fn merge(
 fn copy_of(alloc: Global, key: &CellKey, cell: &Cell) -> Result<(CellKey, Cell), OutOfMemory>
     ensures { IfOk result (λ pair. pair ≡ (key.now, cell.now)) }
 {
-    let key = CellKey {
-        table: key.table,
-        key: Text::copy_of(alloc, key.key.as_str())?,
-        column: Text::copy_of(alloc, key.column.as_str())?,
-    };
-    let cell = Cell {
+    let lent = LentCell {
         ts: cell.ts,
         kind: cell.kind,
-        value: Text::copy_of(alloc, cell.value.as_str())?,
+        value: cell.value.as_str(),
     };
-    Ok((key, cell))
+    Ok((copy_of_key(alloc, key)?, copy_of_cell(alloc, lent)?))
 }
 
 fn copy_of_all(

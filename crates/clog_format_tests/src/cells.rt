@@ -1,6 +1,6 @@
 //! What comes of a few cells, in any order.
 use super::same::same_text;
-use clog_cells::{Cell, CellBatches, CellKey, CellMap, Kind, Table, Text, newer};
+use clog_cells::{Cell, CellBatches, CellKey, CellMap, Kind, LentCell, Table, Text, newer};
 use std::alloc::Global;
 use std::process::Abort;
 use std::test::Fail;
@@ -231,5 +231,27 @@ fn a_map_holds_thousands_of_cells(rt: HostRuntime) -> Result<(), Fail> {
     }
     assert_eq!(rt; cells.len(), 5000);
     assert_eq!(rt; cells.copy()?.len(), 5000);
+    Ok(())
+}
+
+// A live cell that is lent, with its timestamp.
+const LENT: [(i64, &str); 3] = [(9, "first"), (8, "older"), (10, "newer")];
+
+#[test]
+fn a_cell_that_is_lent_is_kept_where_it_is_newer(rt: HostRuntime) -> Result<(), Fail> {
+    let alloc = rt.alloc();
+    let mut cells = CellMap::new(alloc);
+    let place = key(alloc, 0, "k", "c")?;
+    for (ts, value) in LENT.iter() {
+        let cell = LentCell {
+            ts: *ts,
+            kind: Kind::Live,
+            value,
+        };
+        cells.put_lent(&place, cell)?;
+    }
+    assert_eq!(rt; cells.len(), 1);
+    let rows = cells.rows()?;
+    is_row(&rt, rows.first(), &(0, "k", "c", "newer"));
     Ok(())
 }

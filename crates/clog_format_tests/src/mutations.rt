@@ -1,7 +1,7 @@
 //! Payloads byte for byte, and each refusal once.
 use super::same::{same_bytes, same_text};
 use clog_base::{Kind, PayloadFault, Table};
-use clog_mutation::{Update, check, decode, encode, payload_size};
+use clog_mutation::{Update, check, decode, encode, lend, payload_size};
 use std::alloc::Global;
 use std::process::Abort;
 use std::test::Fail;
@@ -40,6 +40,18 @@ fn the_fields_of_a_payload_are_read(rt: HostRuntime) -> Result<(), Fail> {
     for update in live.updates.as_slice() {
         is_the_live_cell(&rt, update);
     }
+    Ok(())
+}
+
+#[test]
+fn the_fields_of_a_payload_are_lent(rt: HostRuntime) -> Result<(), Fail> {
+    let live = lend(rt.alloc(), LIVE)?;
+    same_text(&rt, live.key, "ä");
+    assert_eq!(rt; live.more.len(), 0);
+    assert!(rt; live.first.table == Table(15));
+    same_text(&rt, live.first.column, "c");
+    assert_eq!(rt; live.first.ts, -2);
+    same_text(&rt, live.first.value, "€");
     Ok(())
 }
 

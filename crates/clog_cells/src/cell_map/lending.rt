@@ -34,7 +34,8 @@ fn lent_newer(lent: LentCell<'_>, found: &Cell) -> bool
     order == Ordering::Greater
 }
 
-fn copy_of_cell(alloc: Global, cell: LentCell<'_>) -> Result<Cell, OutOfMemory>
+// A cell of its own.
+pub(super) fn copy_of_cell(alloc: Global, cell: LentCell<'_>) -> Result<Cell, OutOfMemory>
     ensures { IfOk result (λ copy. copy ≡ cell_lent cell.entry) }
 {
     Ok(Cell {
@@ -44,7 +45,8 @@ fn copy_of_cell(alloc: Global, cell: LentCell<'_>) -> Result<Cell, OutOfMemory>
     })
 }
 
-fn copy_of_key(alloc: Global, key: &CellKey) -> Result<CellKey, OutOfMemory>
+// A key of its own.
+pub(super) fn copy_of_key(alloc: Global, key: &CellKey) -> Result<CellKey, OutOfMemory>
     ensures { IfOk result (λ copy. copy ≡ key.now) }
 {
     Ok(CellKey {
@@ -78,6 +80,7 @@ fn put_first(
     requires none { found_at cells.old.entries key.now ≡ None }
     ensures merged { OnOk result
         (IsMerge (cells.old.entries ++ (key.now, cell_lent cell.entry) ∷ []) cells.new.entries) }
+    ensures unchanged { OnErr result (cells.new.entries ≡ cells.old.entries) }
     ensures map { IsCellMap cells.new.entries }
 {
     if cells.len() >= MAX_CELLS {
@@ -99,6 +102,7 @@ fn put_lent(
     requires { IsCellMap cells.old.entries }
     ensures merged { OnOk result
         (IsMerge (cells.old.entries ++ (key.now, cell_lent cell.entry) ∷ []) cells.new.entries) }
+    ensures unchanged { OnErr result (cells.new.entries ≡ cells.old.entries) }
     ensures map { IsCellMap cells.new.entries }
 {
     match cells.get_mut(key) {
@@ -111,8 +115,9 @@ impl CellMap {
     /// Merges one cell as `put` does, and copies it, and its key, only where it is kept. After a
     /// refusal the map is as it was.
     pub fn put_lent(&mut self, key: &CellKey, cell: LentCell<'_>) -> Result<(), OutOfMemory>
-        ensures { OnOk result
+        ensures merged { OnOk result
             (IsMerge (self.old ++ (key.now, cell_lent cell.entry) ∷ []) self.new) }
+        ensures unchanged { OnErr result (self.new ≡ self.old) }
     {
         put_lent(self.alloc, &mut self.cells, key, cell)
     }
