@@ -17,7 +17,7 @@ use Rattle.path_flush.specs.Turned.{HoldsFlush}
 module _ {K : Type 0} (t : Table) where
   -- it may be given back
   pub flush_may : (m : Member K) → HoldsFlush t.0 m.seat.me → MayGiveFlush t.0 m.seat.me.0
-  flush_may m H = inl (inl (H.settled, H.unread))
+  flush_may m H = inl (H.settled, H.unread)
 
   -- the seat is idle then
   pub flush_given : (m m' : Member K) → t.0 < 16 → HoldsFlush t.0 m.seat.me

@@ -1,27 +1,9 @@
 -- What a seat with both turns knows behind the put that retires a memtable which holds nothing.
-use Rattle.std.proofs.Common.{
-  ◌≡◌,
-  ℕ,
-  ◌<◌,
-  Bool,
-  true,
-  false,
-  ◌||◌,
-  List,
-  Option,
-  Some,
-  None,
-  is_some,
-  refl,
-  sym,
-  ap,
-  ◌∙◌,
-  subst,
-}
+use Rattle.std.proofs.Common.{◌≡◌, ℕ, ◌<◌, Bool, true, false, ◌||◌, List, Option, Some, None}
+use Rattle.std.proofs.Common.{is_some, refl, sym, ap, ◌∙◌, subst}
 use Rattle.std.specs.Option.{option_map, option_map_or}
 use Rattle.atomic_table.specs.Table.{Me}
 use Rattle.clog_base.specs.declared.cell.Table.{Table}
-use Rattle.op_core.specs.declared.count.Order.TheVariants.{Write}
 use Rattle.path_core.specs.declared.event.Cursor.TheVariants.{OldestLive}
 use Rattle.path_core.specs.declared.event.Event.TheVariants.{Put}
 use Rattle.path_core.specs.declared.seat.FlushTurn.{FlushTurn}
@@ -37,7 +19,7 @@ use Rattle.path_rule.specs.declared.slot.Slot.{Slot}
 use Rattle.path_rule.specs.declared.view.FlushRead.{FlushRead}
 use Rattle.path_rule.specs.declared.view.Hands.{Hands}
 use Rattle.path_rule.specs.declared.view.View.{View}
-use Rattle.path_rule.specs.Calls.{DidAs, IsPast, MayGive}
+use Rattle.path_rule.specs.Calls.{DidAs, MayGive}
 use Rattle.path_rule.specs.Desks.{HasDesk}
 use Rattle.path_rule.specs.HandsAfter.{with_reading}
 use Rattle.path_rule.specs.Layout.{reading_at}
@@ -81,19 +63,6 @@ module _ (v after : View) (w n : ℕ) (t : Table) (value : ℕ) (q : Option Flus
     };
     unclaimed = cols.claim ∙ H.unclaimed;
   }
-
-  -- what was found of the oldest group stays
-  pub past_put : (g : ℕ) → IsPast Write v g → IsPast Write after g
-  past_put g P = (
-    P.0,
-    (
-      record P.1.0 { filed = P.1.0.filed || false },
-      sync_is ∙ ap (λ (o : Option SyncTurn). option_map (λ (turn : SyncTurn).
-          record turn { filed = turn.filed || false }) o) P.1.1,
-      P.1.2,
-    ),
-    P.2,
-  )
 
   gives_turn : (o : Option SyncTurn)
       → (is_some (option_map (λ (turn : SyncTurn). record turn { filed = turn.filed || false }) o)

@@ -6,7 +6,6 @@ use Rattle.std.proofs.lemmas.Option.{same_Some}
 use Rattle.std.specs.List.{Contains}
 use Rattle.std.specs.Option.{option_map, option_map_or}
 use Rattle.atomic_table.specs.Table.{Me}
-use Rattle.op_core.specs.declared.count.Order.TheVariants.{Write}
 use Rattle.path_core.specs.declared.event.Cursor.TheVariants.{OldestLive, Stopped as StoppedCursor}
 use Rattle.path_core.specs.declared.event.Cursor.TheVariants.{Synced}
 use Rattle.path_core.specs.declared.event.Event.{Event}
@@ -28,7 +27,6 @@ use Rattle.path_rule.specs.declared.slot.Slot.{Slot}
 use Rattle.path_rule.specs.declared.view.Hands.{Hands}
 use Rattle.path_rule.specs.declared.view.OwnStep.{OwnStep}
 use Rattle.path_rule.specs.declared.view.View.{View}
-use Rattle.path_rule.specs.Calls.{IsPast}
 use Rattle.path_rule.specs.Desks.{HasDesk}
 use Rattle.path_rule.specs.Rounds.{AreRoundSteps, IsQuiet, IsQuietStage, IsRoundStep, RoundSteps}
 use Rattle.path_rule.specs.Rounds.{WroteBelow}
@@ -65,10 +63,6 @@ module _ {K : Type 0} (shows : K → Lasting) where
         HasDesk shows m.0.hands.lasting m.0.hands.pending m.0.hands.progress l) (sym boxes)
         H.desk);
   }
-
-pub past_read : (w t g : ℕ) (v after : View) → ReadSteps w t v after → IsPast Write v g
-    → IsPast Write after g
-past_read w t g v after R P = (P.0, (P.1.0, R.sync ∙ P.1.1, P.1.2), P.2)
 
 -- ---- what a holder of a table's turn knows whose tables' words stay
 

@@ -15,6 +15,7 @@ ghost use Rattle.path_flush.specs.Seats.{Stays};
 use crate::flush_ending::give_sync_beside;
 use crate::flush_turn::try_sync_beside;
 use clog_base::Table;
+use crossbeam_utils::Backoff;
 use op_core::Order;
 use path_core::Keeper;
 use path_rounds::{Advance, try_advance, wait_a_turn};
@@ -30,10 +31,13 @@ fn has_moved(tried: Advance) -> bool {
     }
 }
 
-// A turn of a wait, of which so many were made before. Where the group moved on, the wait begins
-// anew.
-fn wait_unless<R: Wait>(rt: &R, moved: bool, waited: u64) -> u64 {
-    if moved { 0 } else { wait_a_turn(rt, waited) }
+// A turn of a wait. Where the group moved on, the wait begins anew.
+fn wait_unless<R: Wait>(rt: &R, moved: bool, backoff: &Backoff) {
+    if moved {
+        backoff.reset();
+    } else {
+        wait_a_turn(rt, backoff);
+    }
 }
 
 // Moves the oldest group of the write order on where the Sync turn is found free, and the group
@@ -84,14 +88,14 @@ pub(crate) fn await_barrier<K: Keeper, A: Allocator, R: Wait>(
     ensures past { FoundPast (part_of result) group }
 {
     let mut member = member;
-    let mut waited = 0;
+    let backoff = Backoff::new();
     for _ in rt.forever() {
         if path.look_passed(&mut member) > group {
             return member;
         }
         let (next, moved) = advance_apart(path, member, table);
         member = next;
-        waited = wait_unless(rt, moved, waited);
+        wait_unless(rt, moved, &backoff);
     }
     unreachable!()
 }

@@ -16,8 +16,9 @@ ghost use Rattle.path_flush.specs.FlushTurns.{KnowsMemtables};
 ghost use Rattle.path_flush.specs.Seats.{Stays};
 
 use clog_base::Table;
+use crossbeam_utils::Backoff;
 use path_core::Keeper;
-use path_rounds::wait_a_turn;
+use path_rounds::wait_for_turn;
 use path_table::{Member, PathSeat, PathTable};
 use std::alloc::Allocator;
 use std::sync::Wait;
@@ -143,13 +144,14 @@ pub(crate) fn take_sync_beside<K: Keeper, A: Allocator, R: Wait>(
         × ((hands_of result).lasting.at_open ≡ path.now.size.at_open) }
 {
     let mut member = member;
-    let mut waited = 0;
+    let backoff = Backoff::new();
+    let mut looked = 0;
     for _ in rt.forever() {
         match try_sync_beside(path, member, table) {
             Ok(holder) => return holder,
             Err(next) => {
                 member = next;
-                waited = wait_a_turn(rt, waited);
+                looked = wait_for_turn(path, rt, &backoff, looked);
             }
         }
     }

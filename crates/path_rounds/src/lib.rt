@@ -17,7 +17,7 @@ pub use advancing::{Advance, try_advance};
 pub use ending::end_sync;
 pub use marker_keys::{FIRST_OFFSET, SEGMENT_KEYS, key_behind_marker};
 pub use marking::claim_next;
-pub use pausing::wait_a_turn;
+pub use pausing::{sleep_a_little, wait_a_turn, wait_for_turn};
 pub use round_ends::end_round;
 pub use rounding::{bar_round, sync_round};
 pub use sweeping::{gather_all, settle};

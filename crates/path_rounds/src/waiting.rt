@@ -20,6 +20,7 @@ ghost use Rattle.path_table.specs.Members.{view_of, part_of, hands_of, IsOf, Kee
 ghost use Rattle.path_rounds.specs.Passes.{HasIssued};
 
 use crate::pausing::wait_a_turn;
+use crossbeam_utils::Backoff;
 use op_core::Order;
 use path_core::Keeper;
 use path_table::{EXPIRED, Member, ONE_GROUP, PathTable};
@@ -92,7 +93,7 @@ pub(crate) fn advance_to<K: Keeper, A: Allocator, R: Wait>(
         ≡ stage_of (part_of holder.member) t }
 {
     let Holder { mut member } = holder;
-    let mut waited = 0;
+    let backoff = Backoff::new();
     for _ in rt.forever() {
         let oldest = path.seek_oldest(&mut member, order);
         if oldest >= upto {
@@ -102,7 +103,7 @@ pub(crate) fn advance_to<K: Keeper, A: Allocator, R: Wait>(
         if count == ONE_GROUP * oldest + EXPIRED {
             advance(path, &mut member, order, oldest + 1, oldest, current);
         } else {
-            waited = wait_a_turn(rt, waited);
+            wait_a_turn(rt, &backoff);
         }
     }
     unreachable!()

@@ -20,7 +20,6 @@ pub mod Placing
 pub mod Accepting
 pub mod SwitchStages
 pub mod OldestBelow
-pub mod BarrierBelow
 pub mod BarredTables
 pub mod LeastStays
 pub mod Applying

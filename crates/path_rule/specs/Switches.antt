@@ -1,6 +1,5 @@
 -- What the holder of a table's Flush turn found of its memtables, or put there, while it held it.
 use Rattle.std.specs.Prelude.{◌≡◌, ◌≢◌, ◌⊎◌, ℕ, ◌<◌, ◌≤◌, Some}
-use Rattle.op_core.specs.declared.count.Order.TheVariants.{Write}
 use Rattle.path_core.specs.declared.seat.FlushTurn.{FlushTurn}
 use Rattle.path_core.specs.declared.seat.Seat.{Seat}
 use Rattle.path_core.specs.declared.seat.Switching.TheVariants.{Settled, WithBarrier}
@@ -9,7 +8,6 @@ use Rattle.path_core.specs.Parts.{seat_table, stage_of}
 use Rattle.path_rule.specs.declared.view.FlushRead.{FlushRead}
 use Rattle.path_rule.specs.declared.view.Hands.{Hands}
 use Rattle.path_rule.specs.declared.view.View.{View}
-use Rattle.path_rule.specs.Calls.{IsPast}
 use Rattle.path_rule.specs.Turns.{FoundPast}
 
 -- it reads no memtable of the table
@@ -17,13 +15,10 @@ abbrev pub ReadsNone : ℕ → Hands → Type 0
 ReadsNone t h = (q : FlushRead) → h.reading ≡ Some q → q.table ≢ t
 
 -- The newest switch of a table is through, so that its turn may be given back: the seat began none,
--- or the barrier of the last one is passed, as the seat found with the Sync turn or without it. And
--- it reads no memtable of the table.
+-- or found the barrier of the last one passed. And it reads no memtable of the table.
 abbrev pub MayGiveFlush : ℕ → View → Type 0
-MayGiveFlush t v = (((stage_of v.part t ≡ Some Settled) × ReadsNone t v.hands)
+MayGiveFlush t v = ((stage_of v.part t ≡ Some Settled) × ReadsNone t v.hands)
     ⊎ ((m g : ℕ) × (stage_of v.part t ≡ Some (WithBarrier m g)) × FoundPast v.part g
-    × ReadsNone t v.hands))
-    ⊎ ((m g : ℕ) × (stage_of v.part t ≡ Some (WithBarrier m g)) × IsPast Write v g
     × ReadsNone t v.hands)
 
 -- the newest memtable
@@ -46,12 +41,11 @@ FlushCleared t p n = (turn : FlushTurn) × ((seat_table p t).flush ≡ Some turn
 abbrev pub IsLeft : ℕ → Seat → ℕ → Type 0
 IsLeft t p m = (n : ℕ) × (stage_of p t ≡ Some Settled) × FlushNewest t p n × (m < n)
 
--- No write is placed in the memtable any more: the barrier that the seat issued for it is passed,
--- as it found with the Sync turn or without it, or an earlier holder left the memtable.
+-- No write is placed in the memtable any more: the seat found the barrier passed that it issued for
+-- it, or an earlier holder left the memtable.
 abbrev pub MayBeginRead : ℕ → View → ℕ → Type 0
 MayBeginRead t v m = ((g : ℕ) × (stage_of v.part t ≡ Some (WithBarrier m g))
-    × (IsPast Write v g ⊎ FoundPast v.part g))
-    ⊎ IsLeft t v.part m
+    × FoundPast v.part g) ⊎ IsLeft t v.part m
 
 -- the bound of a raising memtable, which is at or above this key since
 abbrev pub FlushRaised : ℕ → Seat → ℕ → ℕ → Type 0

@@ -9,6 +9,7 @@ ghost use Rattle.path_rule.specs.Issued.{issued_in, opened_in};
 ghost use Rattle.path_rule.specs.Rounds.{WroteBelow};
 ghost use Rattle.path_rule.specs.Calls.{Started, Refused, acts, FoundSince};
 ghost use Rattle.path_rule.specs.Layout.{numbers_end};
+ghost use Rattle.path_table.specs.LastEnds.{last_end_in};
 ghost use Rattle.path_table.specs.Members.{view_of, IsOf, IsSame, Stepped};
 
 use crate::table::{Member, PathTable};
@@ -66,7 +67,8 @@ impl<K> PathSeat<K> {
     /// The log key at which its last write ends, 0 before the first: all that it wrote ends at or
     /// below it.
     pub fn last_end(&self) -> u64
-        ensures { WroteBelow result (view_of self.now.member).trail }
+        ensures ended { result ≡ last_end_in (view_of self.now.member).trail }
+        ensures wrote { WroteBelow result (view_of self.now.member).trail }
     {
         self.member.last_end
     }

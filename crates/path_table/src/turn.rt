@@ -31,6 +31,12 @@ use crate::words::{STOPPED, SYNC_TURN};
 use path_core::Keeper;
 use path_rule::{GiveSync, LookAt, TakeSync};
 use std::alloc::Allocator;
+use std::sync::Wait;
+use std::time::Duration;
+
+// The longest that a seat sleeps which waits for the turn, in milliseconds: it may have missed that
+// the turn was given back and taken again.
+const SLEEP_MILLIS: u64 = 1;
 
 impl<K: Keeper, A: Allocator> PathTable<K, A> {
     /// Takes the Sync turn, with the desk, where nobody has it. Returns what it found: where that
@@ -56,7 +62,7 @@ impl<K: Keeper, A: Allocator> PathTable<K, A> {
     }
 
     /// Gives the Sync turn back, and the desk with what the member knows to be on it, while no
-    /// barrier is under way.
+    /// barrier is under way; and wakes all who sleep until then.
     pub fn give_sync(&self, member: &mut Member<K>)
         requires table { IsOf self.now.table.shared.table_id self.now.size member.old }
         requires rest { IsTrue (is_some (part_of member.old).sync)
@@ -70,6 +76,14 @@ impl<K: Keeper, A: Allocator> PathTable<K, A> {
         self.table
             .shared
             .store::<GiveSync<K>>(&mut member.seat, SYNC_TURN, 0);
+        self.table.shared.wake_all(SYNC_TURN);
+    }
+
+    /// Sleeps while a seat has the Sync turn, until it is given back, for a millisecond at most. It
+    /// may return sooner.
+    pub fn sleep_beside_turn<R: Wait>(&self, rt: &R) {
+        let longest = Duration::from_millis(SLEEP_MILLIS);
+        self.table.shared.park_timeout(rt, SYNC_TURN, 1, longest);
     }
 
     /// The count of faults with which the keeper stopped, 0 while the log runs. It is exact while

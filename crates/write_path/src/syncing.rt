@@ -16,12 +16,20 @@ ghost use Rattle.write_path.specs.Syncs.{Syncs};
 ghost use Rattle.path_flush.specs.Seats.{Stays};
 
 use crate::seats::WritePath;
+use crossbeam_utils::Backoff;
 use path_core::Keeper;
-use path_rounds::{sync_round, wait_a_turn};
+use path_rounds::{sleep_a_little, sync_round, wait_for_turn};
 use path_rule::SyncAnswer;
 use path_table::PathSeat;
 use std::alloc::{Allocator, Global};
 use std::sync::Wait;
+
+// Where a round told nothing, the last marker waits for its barrier: the turn is left to its seat.
+fn leave_unless<R: Wait>(rt: &R, answered: bool) {
+    if !answered {
+        sleep_a_little(rt);
+    }
+}
 
 impl<K: Keeper, A: Allocator> WritePath<K, A> {
     // One round of a sync, where the Sync turn is free; the turn is given back. `None` where
@@ -45,6 +53,7 @@ impl<K: Keeper, A: Allocator> WritePath<K, A> {
         }
         let (mut member, answer) = sync_round(&self.table, rt, alloc, member);
         self.table.give_sync(&mut member);
+        leave_unless(rt, answer.is_some());
         (PathSeat { member }, answer)
     }
 
@@ -144,13 +153,14 @@ impl<K: Keeper, A: Allocator> WritePath<K, A> {
             ≤ 1 + issued_in (view_of seat.member).trail }
     {
         let mut seat = seat;
-        let mut waited = 0;
+        let backoff = Backoff::new();
+        let mut looked = 0;
         for _ in rt.forever() {
             let (next, answer) = self.sync_once(rt, alloc, seat);
             seat = next;
             match answer {
                 Some(answer) => return (seat, answer),
-                None => waited = wait_a_turn(rt, waited),
+                None => looked = wait_for_turn(&self.table, rt, &backoff, looked),
             }
         }
         unreachable!()

@@ -1,17 +1,15 @@
 -- What the holder of a table's Flush turn knows of a memtable below the newest: it is final, and
 -- its barrier is passed, also where an earlier holder left it.
-use Rattle.std.proofs.Common.{◌≡◌, ℕ, true, Some, is_some, ⊎_elim, subst, arith}
-use Rattle.std.specs.Prelude.{◌⊎◌}
+use Rattle.std.proofs.Common.{◌≡◌, ℕ, Some, ⊎_elim, subst, arith}
 use mathlib.Core.Option.{some}
 use lib.ListN.{get_elem?}
 use Rattle.atomic_table.specs.Table.{State, Me}
-use Rattle.op_core.specs.declared.count.Order.TheVariants.{Write}
 use Rattle.path_core.specs.declared.seat.Seat.{Seat}
 use Rattle.path_core.specs.declared.seat.Switching.TheVariants.{Settled, WithBarrier}
 use Rattle.path_core.specs.declared.state.PathState.{PathState}
 use Rattle.path_core.specs.Allowed.{IsSettled}
 use Rattle.path_core.specs.Lawful.{IsLawfulPath}
-use Rattle.path_core.specs.Parts.{seat_of, seat_table, stage_of, table_of, HasPassedBarrier}
+use Rattle.path_core.specs.Parts.{seat_of, stage_of, table_of, HasPassedBarrier}
 use Rattle.path_core.proofs.tables.StageTells.{settled_at, stage_exact, through_by_stage}
 use Rattle.path_rule.specs.declared.lasting.Beside.{Beside}
 use Rattle.path_rule.specs.declared.lasting.Lasting.{Lasting}
@@ -19,14 +17,13 @@ use Rattle.path_rule.specs.declared.slot.Slot.{Slot}
 use Rattle.path_rule.specs.declared.view.PathSize.{PathSize}
 use Rattle.path_rule.specs.declared.view.Role.TheVariants.{Steps}
 use Rattle.path_rule.specs.declared.view.View.{View}
-use Rattle.path_rule.specs.Calls.{IsPast}
 use Rattle.path_rule.specs.Rule.{Ruled}
 use Rattle.path_rule.specs.Switches.{FlushOldest, IsLeft, MayBeginRead}
 use Rattle.path_rule.specs.Turns.{FoundPast}
 use Rattle.path_rule.proofs.moves.Looks.{as_part}
 use Rattle.path_rule.proofs.moves.Moving.{core_lawful}
 use Rattle.path_rule.proofs.moves.SwitchSteps.{oldest_is, stage_now}
-use Rattle.path_rule.proofs.moves.TableTurns.{held_at, passed_now, past_is_passed}
+use Rattle.path_rule.proofs.moves.TableTurns.{past_is_passed}
 
 module _ (x : PathState) (L : IsLawfulPath x) (w : ℕ) where
   -- the newest memtable, as the holder found it
@@ -44,34 +41,20 @@ module _ (x : PathState) (L : IsLawfulPath x) (w : ℕ) where
       let near = (L.switches.tables t).bounds_rise.one_behind in
       settled_at x L t m (omega arith) (left_settled t m left)
 
--- it holds the table's turn
-pub left_held : (p : Seat) (t m : ℕ) → IsLeft t p m → is_some (seat_table p t).flush ≡ true
-left_held p t m left = held_at (seat_table p t).flush Settled left.1
-
 module _ {K : Type 0} (shows : K → Lasting) (o : Beside) (size : PathSize) (slots id : ℕ)
     (m : Me (Slot K) View) (w : ℕ) (mine : m.0.role ≡ Steps w) (s : State (Slot K) View)
     (r : Ruled shows o size s) (there : get_elem? s.views id ≡ some m.0) where
-  -- what is read holds the table's turn
-  pub begins_held : (t k : ℕ) → MayBeginRead t m.0 k → is_some (seat_table m.0.part t).flush ≡ true
-  begins_held t k may = ⊎_elim
-      (λ (B : (g : ℕ) × (stage_of m.0.part t ≡ Some (WithBarrier k g))
-      × (IsPast Write m.0 g ⊎ FoundPast m.0.part g)).
-      held_at (seat_table m.0.part t).flush (WithBarrier k B.0) B.1)
-      (λ (left : IsLeft t m.0.part k). left_held m.0.part t k left) may
-
-  -- and no write is placed in it any more
+  -- no write is placed in what may be read
   pub begins_passed : (t k : ℕ) → MayBeginRead t m.0 k → FlushOldest t m.0.part k
       → HasPassedBarrier r.core t k
   begins_passed t k may oldest = let law = core_lawful shows o size s r in
       let is = as_part shows o size slots id m w mine s r there in ⊎_elim
       (λ (B : (g : ℕ) × (stage_of m.0.part t ≡ Some (WithBarrier k g))
-      × (IsPast Write m.0 g ⊎ FoundPast m.0.part g)). record {
+      × FoundPast m.0.part g). record {
         group = B.0;
         issued = (stage_exact r.core law w t (WithBarrier k B.0)
             (stage_now shows o size slots id m w mine s r there t (WithBarrier k B.0) B.1)).issued;
-        passed = ⊎_elim (λ past. passed_now shows o size slots id m w mine s r there B.0 past)
-            (λ past. past_is_passed r.core law w B.0
-            (subst (λ (p : Seat). FoundPast p B.0) is past)) B.2;
+        passed = past_is_passed r.core law w B.0 (subst (λ (p : Seat). FoundPast p B.0) is B.2);
       })
       (λ (left : IsLeft t m.0.part k). left_passed r.core law w t k
       (subst (λ (p : Seat). IsLeft t p k) is left)

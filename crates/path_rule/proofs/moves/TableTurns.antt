@@ -34,7 +34,6 @@ use Rattle.path_rule.specs.declared.slot.Slot.{Slot}
 use Rattle.path_rule.specs.declared.view.PathSize.{PathSize}
 use Rattle.path_rule.specs.declared.view.Role.TheVariants.{Steps}
 use Rattle.path_rule.specs.declared.view.View.{View}
-use Rattle.path_rule.specs.Calls.{IsPast}
 use Rattle.path_rule.specs.Lasts.{shown}
 use Rattle.path_rule.specs.Rule.{Ruled, view_after}
 use Rattle.path_rule.specs.Reads.{ReadsHeld}
@@ -130,9 +129,7 @@ module _ {K : Type 0} (shows : K → Lasting) (o : Beside) (size : PathSize) (sl
         (Some k)
 
     -- the newest switch is through, as the holder's part tells
-    pub settled : (t : ℕ) → (((stage_of m.0.part t ≡ Some Settled) × ReadsNone t m.0.hands)
-        ⊎ ((f g : ℕ) × (stage_of m.0.part t ≡ Some (WithBarrier f g)) × FoundPast m.0.part g
-        × ReadsNone t m.0.hands))
+    pub settled : (t : ℕ) → MayGiveFlush t m.0
         → (is_some (seat_table (seat_of r.core w) t).flush ≡ true) × IsSettled r.core t
     settled t through = let L = core_lawful shows o size s r in ⊎_elim
         (λ (k : (stage_of m.0.part t ≡ Some Settled) × ReadsNone t m.0.hands).
@@ -150,53 +147,11 @@ module _ {K : Type 0} (shows : K → Lasting) (o : Beside) (size : PathSize) (sl
               (as_part shows o size slots id m w mine s r there) k.3)),
         )) through
 
-    -- the same, where the barrier was found passed with the Sync turn
-    pub settled_past : (t f g : ℕ) → stage_of m.0.part t ≡ Some (WithBarrier f g)
-        → IsPast Write m.0 g
-        → (is_some (seat_table (seat_of r.core w) t).flush ≡ true) × IsSettled r.core t
-    settled_past t f g at past = let L = core_lawful shows o size s r in
-        let stage : Switching = WithBarrier f g in let now = at_stage t stage at in
-        let turn = past.1 in
-        let oldest = ((L.seats_know w).sync turn.0 (own_part shows o size slots id m w mine s r
-        there
-        (λ (p : Seat). p.sync) (Some turn.0) turn.1)).write.oldest past.0 turn.2 in
-        let below = past.2 in let more = current_is_made r.core L Write in
-        let old = (L.orders.made_groups Write).oldest in (
-          held_at (seat_table (seat_of r.core w) t).flush stage now,
-          (through_by_stage r.core L w t stage now).1 (record {
-            made = omega arith;
-            finished = λ h le.
-                ((L.orders.counts_stand_for_seats Write).each h).below_oldest (omega arith);
-          }),
-        )
-
-    -- the group of such a barrier is passed
-    pub passed_now : (g : ℕ) → IsPast Write m.0 g → IsPassed r.core.write.tallies g
-    passed_now g past = let L = core_lawful shows o size s r in let turn = past.1 in
-        let oldest = ((L.seats_know w).sync turn.0 (own_part shows o size slots id m w mine s r
-        there
-        (λ (p : Seat). p.sync) (Some turn.0) turn.1)).write.oldest past.0 turn.2 in
-        let below = past.2 in let more = current_is_made r.core L Write in
-        let old = (L.orders.made_groups Write).oldest in record {
-          made = omega arith;
-          finished = λ h le.
-              ((L.orders.counts_stand_for_seats Write).each h).below_oldest (omega arith);
-        }
-
-    pub settled_now : (t : ℕ) → MayGiveFlush t m.0
-        → (is_some (seat_table (seat_of r.core w) t).flush ≡ true) × IsSettled r.core t
-    settled_now t may = ⊎_elim (λ through. settled t through)
-        (λ (k : (f g : ℕ) × (stage_of m.0.part t ≡ Some (WithBarrier f g)) × IsPast Write m.0 g
-        × ReadsNone t m.0.hands). settled_past t k.0 k.1 k.2 k.3) may
-
     -- and no memtable of the table is read
     reads_none : (t : ℕ) → MayGiveFlush t m.0 → ReadsNone t m.0.hands
     reads_none t may = ⊎_elim
-        (λ through. ⊎_elim
         (λ (k : (stage_of m.0.part t ≡ Some Settled) × ReadsNone t m.0.hands). k.1)
         (λ (k : (f g : ℕ) × (stage_of m.0.part t ≡ Some (WithBarrier f g)) × FoundPast m.0.part g
-        × ReadsNone t m.0.hands). k.4) through)
-        (λ (k : (f g : ℕ) × (stage_of m.0.part t ≡ Some (WithBarrier f g)) × IsPast Write m.0 g
         × ReadsNone t m.0.hands). k.4) may
 
   pub gives_flush : (t : Table) → t.0 < 16 → t.0 < m.0.size.tables → MayGiveFlush t.0 m.0
@@ -207,7 +162,7 @@ module _ {K : Type 0} (shows : K → Lasting) (o : Beside) (size : PathSize) (sl
       let may : IsStep x e = record {
         seat = within shows o size slots id m w mine s r there;
         is_there = few_tables shows o size slots id m w mine s r there t.0 inside;
-        row = settled_now s r there t.0 through;
+        row = settled s r there t.0 through;
       } in
       acts shows o size slots id m w mine s r there e refl may tt tt few
       tt (rows_stay x e may (λ q. q) r.rows) 0 0 refl refl tt

@@ -1,4 +1,4 @@
-use Rattle.std.proofs.Common.{◌<◌, inl, inr, refl, sym, ap, ◌∙◌, subst, arith}
+use Rattle.std.proofs.Common.{◌<◌, inr, refl, sym, ap, ◌∙◌, subst, arith}
 use Rattle.std.proofs.lemmas.Option.{none-some}
 use Rattle.path_core.specs.declared.event.Event.TheVariants.{GiveTurn}
 use Rattle.path_core.specs.declared.event.Turn.TheVariants.{Flush}
@@ -21,13 +21,13 @@ give_flush-requires-clause-there g c = subst (λ (z : PathSize). c.args.table.0 
 pub give_flush-requires-clause-through : goal.give_flush-requires-clause-through
 give_flush-requires-clause-through g c = let W = c.await_barrier-member in
     let t = c.args.table.0 in let B = c.requires.barrier in
-    let unread = W.ensures.reading ∙ c.requires.unread in inl (inr (
+    let unread = W.ensures.reading ∙ c.requires.unread in inr (
       B.0,
       c.args.group,
       stage_same t c.args.member.seat.me.0.part W.result.seat.me.0.part W.ensures.table ∙ B.1,
       W.ensures.past,
       λ q has. absurd (none-some q (sym unread ∙ has)),
-    ))
+    )
 
 pub returns-clause-same : goal.returns-clause-same
 returns-clause-same g c = let W = c.await_barrier-member.ensures in

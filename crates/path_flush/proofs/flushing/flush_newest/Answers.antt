@@ -1,4 +1,4 @@
-use Rattle.std.proofs.Common.{◌≤◌, [], inl, inr, ◌∙◌, subst, arith}
+use Rattle.std.proofs.Common.{◌≤◌, [], inl, ◌∙◌, subst, arith}
 use Rattle.path_rule.proofs.seats.RoundsGo.{issued_by as round_issued}
 use Rattle.path_flush.specs.FlushSteps.{Finalises}
 use Rattle.path_flush.specs.Opens.{opens}
@@ -37,7 +37,7 @@ switch_table-member-requires-clause-numbers g c = let w = c.args.member.number i
 pub retire_memtable-member-requires-clause-stage : goal.retire_memtable-member-requires-clause-stage
 retire_memtable-member-requires-clause-stage g c =
     let D = c.switch_table-member.ensures.switched.drained in
-    inl (c.switch_table-member.result.2, D.stage, inr D.past)
+    inl (c.switch_table-member.result.2, D.stage, D.past)
 
 pub retire_memtable-member-requires-clause-oldest :
     goal.retire_memtable-member-requires-clause-oldest

@@ -1,4 +1,4 @@
-use Rattle.std.proofs.Common.{◌<◌, inl, inr, refl, ◌∙◌, subst}
+use Rattle.std.proofs.Common.{◌<◌, inl, refl, ◌∙◌, subst}
 use Rattle.path_rule.specs.declared.view.PathSize.{PathSize}
 use Rattle.path_flush.proofs.FilingGoes.{then_unswitched}
 use Rattle.path_flush.proofs.FlushPays.{paid_on}
@@ -12,7 +12,7 @@ start_read-member-requires-clause-there g c = subst (λ (z : PathSize). c.args.t
 
 pub start_read-member-requires-clause-stage : goal.start_read-member-requires-clause-stage
 start_read-member-requires-clause-stage g c = let D = c.requires.drained in
-    inl (c.args.group, D.stage, inr D.past)
+    inl (c.args.group, D.stage, D.past)
 
 pub leave_empty-requires-clause-holds : goal.leave_empty-requires-clause-holds
 leave_empty-requires-clause-holds g c = let S = c.start_read-member.ensures in
