@@ -35,16 +35,23 @@ for words in replay 'replay --ignore-errors' apply 'apply --dump'; do
 done
 that 'it is left too' cmp -s cut commitlog/Table-0-1.tbl
 
-# A file shrinks between two of the pieces in which it is read: it is torn where its bytes end.
+# A file shrinks between two of the pieces in which it is read: it is torn where its bytes end. One
+# that grows is read up to the length that it had.
 fresh
-traces || { skipped 'a file that shrinks: no strace'; exit 0; }
+traces || { skipped 'a file that shrinks or grows: no strace'; exit 0; }
 lines $(seq 100) | "$program" apply >/dev/null
 name=$(ls commitlog)
 cp "commitlog/$name" whole
 
-# shrunk WORD..: a replay that stops before its second piece; then the file is cut to the first one,
-# and the replay goes on.
-shrunk() {
+# The file is cut to its first piece, or gets bytes that are no marker.
+shrink() { truncate -s 65536 "commitlog/$name"; }
+grow() { echo 'no marker' >>"commitlog/$name"; }
+
+# meanwhile CHANGE WORD..: a replay that stops before its second piece; then the file is changed, and
+# the replay goes on.
+meanwhile() {
+    change=$1
+    shift
     cp whole "commitlog/$name"
     : >trace
     strace -o trace -P "$(realpath "commitlog/$name")" -e trace=lseek \
@@ -55,15 +62,17 @@ shrunk() {
         sleep 0.1
     done
     grep -q 'stopped by SIGSTOP' trace || kill -KILL "$(cat pid)"
-    truncate -s 65536 "commitlog/$name"
+    $change
     kill -CONT "$(cat pid)"
     wait $!
 }
 
 expect 'a file that shrinks while it is read, the last one' 0 "$(counts 1 0 33 33 0)
-**" '' shrunk replay
+**" '' meanwhile shrink replay
 : >commitlog/CommitLog-6-9223372036854775807.log
 expect 'a file that shrinks below another segment' 7 "error 7: $name at 65536: Short" '' \
-    shrunk replay
+    meanwhile shrink replay
 expect 'the same, read past it' 0 "$(counts 2 0 33 33 0)
-**" '' shrunk replay --ignore-errors
+**" '' meanwhile shrink replay --ignore-errors
+expect 'a file that grows below another segment' 0 "$(counts 2 0 100 100 0)
+**" '' meanwhile grow replay
