@@ -5,7 +5,7 @@ ghost use Rattle.op_order.specs.Operations.{Starts, Looks, Finds, Ends};
 use crate::fact::Fact;
 use crate::seats::{Reader, Running, Seen};
 use crate::table::OpOrder;
-use crate::word::{EXPIRED, group_in};
+use crate::word::is_open;
 
 impl<F: Fact> OpOrder<F> {
     /// Starts an operation in the current group (`OpOrder.start`), by one try. It is refused where
@@ -22,7 +22,7 @@ impl<F: Fact> OpOrder<F> {
         let group = self.look_current(&mut seat);
         let count = spots.count_of(group);
         let looked = self.look_count(&mut seat, group, count);
-        if looked >= EXPIRED || group_in(looked) != group {
+        if !is_open(looked, group) {
             let found = looked;
             return Err((Reader { seat, spots }, Seen { looked, found }));
         }
