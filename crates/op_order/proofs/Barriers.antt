@@ -146,8 +146,8 @@ module _ (fits : ℕ → ℕ → Type 0) (places : ℕ) {S : Type 0} (slots id :
                 (word_here s.words i n inside
                 ∙ ((let z : 65536 * g ≡ 0 + 65536 * g = omega arith in z)
                 ∙ sym (ap (count_word g) new)))
-                (λ j apart. word_else s.words i (3 + places + j) n
-                (λ e. apart (let y : 3 + places + j ≡ 3 + places + x = e in omega arith)))
+                (λ j apart. word_else s.words i (10 + places + j) n
+                (λ e. apart (let y : 10 + places + j ≡ 10 + places + x = e in omega arith)))
                 (λ h _. same h));
           };
         },
@@ -206,11 +206,11 @@ module _ (fits : ℕ → ℕ → Type 0) (places : ℕ) {S : Type 0} (slots id :
             ring = subst (λ y. RingShows (suc places) p.oldest y
                 (ring_of places (set s.words 1 g)) (tally_at R.tallies)) top
                 (record {
-                  shown = λ h l u. word_else s.words 1 (3 + places + h % suc places) g
+                  shown = λ h l u. word_else s.words 1 (10 + places + h % suc places) g
                       (λ e. omega arith) ∙ D.ring.shown h l u;
                   each = λ j below. subst (λ z. HasWord (suc places) p.oldest
                       (top_of p.stage p.current) j ⊎ (2 ^ 63 ≤ z))
-                      (sym (word_else s.words 1 (3 + places + j) g (λ e. omega arith)))
+                      (sym (word_else s.words 1 (10 + places + j) g (λ e. omega arith)))
                       (D.ring.each j below);
                 });
           };

@@ -37,35 +37,35 @@ past_first (suc h) = refl
 
 -- the words of a new table, as they are written
 pub first_of : (places first : ℕ) → 2 ≤ places → AreFirst places first
-    (set (set (set (set (set (replicate (4 + 2 * places) (2 ^ 63)) 0 0) 1 0) 2 0) 3 first)
-    (3 + places) 0)
+    (set (set (set (set (set (replicate (11 + 2 * places) (2 ^ 63)) 0 0) 1 0) 2 0) 3 first)
+    (10 + places) 0)
 first_of places first least = record {
-  wide = length-set l4 (3 + places) 0 ∙ wide4;
-  root = word_else l4 (3 + places) 0 0 (λ e. omega arith)
+  wide = length-set l4 (10 + places) 0 ∙ wide4;
+  root = word_else l4 (10 + places) 0 0 (λ e. omega arith)
       ∙ (word_else l3 3 0 first (λ e. omega arith)
       ∙ (word_else l2 2 0 0 (λ e. omega arith) ∙ (word_else l1 1 0 0 (λ e. omega arith)
       ∙ word_here l0 0 0 (let w = wide0 in omega arith))));
-  current = word_else l4 (3 + places) 1 0 (λ e. omega arith)
+  current = word_else l4 (10 + places) 1 0 (λ e. omega arith)
       ∙ (word_else l3 3 1 first (λ e. omega arith)
       ∙ (word_else l2 2 1 0 (λ e. omega arith) ∙ word_here l1 1 0 (let w = wide1 in omega arith)));
-  oldest = word_else l4 (3 + places) 2 0 (λ e. omega arith)
+  oldest = word_else l4 (10 + places) 2 0 (λ e. omega arith)
       ∙ (word_else l3 3 2 first (λ e. omega arith) ∙ word_here l2 2 0
       (let w = wide2 in omega arith));
-  value = word_else l4 (3 + places) 3 0 (λ e. omega arith) ∙ word_here l3 3 first
+  value = word_else l4 (10 + places) 3 0 (λ e. omega arith) ∙ word_here l3 3 first
       (let w = wide3 in omega arith);
-  group = word_here l4 (3 + places) 0 (let w = wide4 in omega arith);
+  group = word_here l4 (10 + places) 0 (let w = wide4 in omega arith);
   others = λ i above below. subst (λ z. 2 ^ 63 ≤ z) (sym (
-      word_else l4 (3 + places) (3 + places + i) 0 (λ e. omega arith)
-      ∙ (word_else l3 3 (3 + places + i) first (λ e. omega arith)
-      ∙ (word_else l2 2 (3 + places + i) 0 (λ e. omega arith)
-      ∙ (word_else l1 1 (3 + places + i) 0 (λ e. omega arith)
-      ∙ (word_else l0 0 (3 + places + i) 0 (λ e. omega arith)
-      ∙ get_or-replicate (4 + 2 * places) (3 + places + i) (2 ^ 63) 0 (omega arith)))))))
+      word_else l4 (10 + places) (10 + places + i) 0 (λ e. omega arith)
+      ∙ (word_else l3 3 (10 + places + i) first (λ e. omega arith)
+      ∙ (word_else l2 2 (10 + places + i) 0 (λ e. omega arith)
+      ∙ (word_else l1 1 (10 + places + i) 0 (λ e. omega arith)
+      ∙ (word_else l0 0 (10 + places + i) 0 (λ e. omega arith)
+      ∙ get_or-replicate (11 + 2 * places) (10 + places + i) (2 ^ 63) 0 (omega arith)))))))
       (omega arith);
 }
   where
     l0 : List ℕ
-    l0 = replicate (4 + 2 * places) (2 ^ 63)
+    l0 = replicate (11 + 2 * places) (2 ^ 63)
 
     l1 : List ℕ
     l1 = set l0 0 0
@@ -79,19 +79,19 @@ first_of places first least = record {
     l4 : List ℕ
     l4 = set l3 3 first
 
-    wide0 : length l0 ≡ 4 + 2 * places
-    wide0 = length-replicate (4 + 2 * places) (2 ^ 63)
+    wide0 : length l0 ≡ 11 + 2 * places
+    wide0 = length-replicate (11 + 2 * places) (2 ^ 63)
 
-    wide1 : length l1 ≡ 4 + 2 * places
+    wide1 : length l1 ≡ 11 + 2 * places
     wide1 = length-set l0 0 0 ∙ wide0
 
-    wide2 : length l2 ≡ 4 + 2 * places
+    wide2 : length l2 ≡ 11 + 2 * places
     wide2 = length-set l1 1 0 ∙ wide1
 
-    wide3 : length l3 ≡ 4 + 2 * places
+    wide3 : length l3 ≡ 11 + 2 * places
     wide3 = length-set l2 2 0 ∙ wide2
 
-    wide4 : length l4 ≡ 4 + 2 * places
+    wide4 : length l4 ≡ 11 + 2 * places
     wide4 = length-set l3 3 first ∙ wide3
 
 pub opening_ruled : (fits : ℕ → ℕ → Type 0) (places first : ℕ) {S : Type 0} (words : List ℕ)
@@ -149,11 +149,11 @@ opening_ruled fits places first words least most fit F =
             (ap (λ z. slice_index words (3 + z)) at_zero ∙ F.value);
         next = λ e. absurd (let q : Rest ≡ Stored = e in cc);
         ring = record {
-          shown = λ g l u. subst (λ z. slice_index words (3 + places + z % suc places)
+          shown = λ g l u. subst (λ z. slice_index words (10 + places + z % suc places)
               ≡ Rattle.op_core.specs.CountWords.count_word z (tally_at (Open 0 ∷ []) z))
               (let q : 0 ≡ g = omega arith in q)
-              (ap (λ z. slice_index words (3 + places + z)) at_first
-              ∙ (ap (slice_index words) (let z : 3 + places + 0 ≡ 3 + places = omega arith in z)
+              (ap (λ z. slice_index words (10 + places + z)) at_first
+              ∙ (ap (slice_index words) (let z : 10 + places + 0 ≡ 10 + places = omega arith in z)
               ∙ F.group));
           each = λ i below. dite (ℕ_discrete i 0)
               (λ e. inl (record {

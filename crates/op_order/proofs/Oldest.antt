@@ -97,7 +97,7 @@ module _ (fits : ℕ → ℕ → Type 0) (places : ℕ) {S : Type 0} (slots id :
           });
         };
         shown = let e = sym (set-get_or s.words i 0) in record {
-          wide = subst (λ w. length w ≡ 4 + 2 * places) e D.wide;
+          wide = subst (λ w. length w ≡ 11 + 2 * places) e D.wide;
           root = subst (λ w. slice_index w 0 ≡ root_word places p.sequence) e D.root;
           current = subst (λ w. slice_index w 1 ≡ p.current) e D.current;
           oldest = subst (λ w. slice_index w 2 ≡ p.oldest) e D.oldest;
@@ -226,11 +226,11 @@ module _ (fits : ℕ → ℕ → Type 0) (places : ℕ) {S : Type 0} (slots id :
             next = λ e. absurd (let q : Rest ≡ Stored = sym stage ∙ e in cc);
             ring = ring_advance (suc places) p.oldest (top_of p.stage p.current)
                 (ring_of places (set s.words 2 g)) (tally_at R.tallies) (omega arith) done (record {
-                  shown = λ h l u. word_else s.words 2 (3 + places + h % suc places) g
+                  shown = λ h l u. word_else s.words 2 (10 + places + h % suc places) g
                       (λ e. omega arith) ∙ D.ring.shown h l u;
                   each = λ j below. subst (λ z. HasWord (suc places) p.oldest
                       (top_of p.stage p.current) j ⊎ (2 ^ 63 ≤ z))
-                      (sym (word_else s.words 2 (3 + places + j) g (λ e. omega arith)))
+                      (sym (word_else s.words 2 (10 + places + j) g (λ e. omega arith)))
                       (D.ring.each j below);
                 });
           };

@@ -156,7 +156,7 @@ module _ (fits : ℕ → ℕ → Type 0) (places : ℕ) {S : Type 0} (slots id :
                   ∙ D.values z l u;
               next = λ e. word_here s.words i v inside;
               ring = ring_stays places p p' R.tallies s.words (set s.words i v) M
-                  (λ j. word_else s.words i (3 + places + j) v (λ e. omega arith)) D.ring;
+                  (λ j. word_else s.words i (10 + places + j) v (λ e. omega arith)) D.ring;
             };
           }
 
@@ -241,6 +241,6 @@ module _ (fits : ℕ → ℕ → Type 0) (places : ℕ) {S : Type 0} (slots id :
                   (λ e. D.values z l (omega arith) ∙ sym (old_value z (omega arith)));
               next = λ e. absurd (let q : Rooted ≡ Stored = e in cc);
               ring = ring_stays places p p' R.tallies s.words (set s.words 0 n) M
-                  (λ j. word_else s.words 0 (3 + places + j) n (λ e. omega arith)) D.ring;
+                  (λ j. word_else s.words 0 (10 + places + j) n (λ e. omega arith)) D.ring;
             };
           }

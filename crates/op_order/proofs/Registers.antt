@@ -43,7 +43,7 @@ shows_count places tallies tallies' part words g n W room low high is same plent
     let below : g % suc places < suc places = mod-lt g (omega arith) in
     let wide = W.wide in
     let x : ℕ = g % suc places in
-    let at_x : i ≡ 3 + places + x = refl in
+    let at_x : i ≡ 10 + places + x = refl in
     let under : x < suc places = below in
     let inside : i < length words = omega arith in
     let apart : (j : ℕ) → j < 3 + places → j ≢ i = λ j small e. omega arith in record {
@@ -61,8 +61,8 @@ shows_count places tallies tallies' part words g n W room low high is same plent
       ring = ring_count (suc places) part.oldest (top_of part.stage part.current) g
           (ring_of places words) (ring_of places (set words i n)) (tally_at tallies)
           (tally_at tallies') room low high W.ring (word_here words i n inside ∙ is)
-          (λ j m. word_else words i (3 + places + j) n
-          (λ e. m (let y : 3 + places + j ≡ 3 + places + x = e in omega arith)))
+          (λ j m. word_else words i (10 + places + j) n
+          (λ e. m (let y : 10 + places + j ≡ 10 + places + x = e in omega arith)))
           same;
     }
 

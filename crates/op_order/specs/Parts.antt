@@ -1,5 +1,5 @@
 -- What the contracts say of seats.
-use Rattle.std.specs.Prelude.{◌≡◌, ℕ, ◌+◌, ◌*◌, ◌<◌, ◌≤◌, []}
+use Rattle.std.specs.Prelude.{◌≡◌, ℕ, ◌+◌, ◌<◌, ◌≤◌, []}
 use Rattle.atomic_table.specs.Seated.{TableId}
 use Rattle.atomic_table.specs.declared.shared.Seat.{Seat}
 use Rattle.op_order.specs.declared.view.OwnerPart.{OwnerPart}
@@ -7,7 +7,7 @@ use Rattle.op_order.specs.declared.view.ReaderPart.{ReaderPart}
 use Rattle.op_order.specs.declared.view.Stage.TheVariants.{Rest}
 use Rattle.op_order.specs.declared.view.View.{View}
 use Rattle.op_order.specs.declared.view.View.TheVariants.{Owns, Reads}
-use Rattle.op_order.specs.Rule.{count_at, first_part, new_reader}
+use Rattle.op_order.specs.Rule.{first_part, new_reader}
 use Rattle.op_order.specs.Told.{with_store, with_root, with_open, with_move, with_rest}
 
 -- what the owner's seat knows, and what a reader's does; of another seat, what a new one does
@@ -39,11 +39,6 @@ IsOwner z s = (s.table_id ≡ z) × OwnsAs s (part_of s)
 
 abbrev pub IsReader : TableId → Seat ℕ View → Type 0
 IsReader z s = (s.table_id ≡ z) × ReadsAs s (read_of s)
-
--- in a table of so many words the count of the group stands at this one
-abbrev pub StandsAt : ℕ → ℕ → ℕ → Type 0
-StandsAt words group count = (places : ℕ) → words ≡ 4 + 2 * places
-    → (count ≡ count_at places group) × (count < 4 + 2 * places)
 
 -- the owner's seat has made a step, and has this part since
 abbrev pub OwnerSteps : Seat ℕ View → Seat ℕ View → OwnerPart → Type 0

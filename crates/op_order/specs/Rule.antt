@@ -1,7 +1,8 @@
 -- The rule of the table: the words show a lawful state.
 --
 -- Word 0 is the root (its sequence above its place), 1 the current group, 2 the oldest one. Behind
--- them stand the values of the places, and behind these the ring of counts.
+-- them stand the values of the places. The ring of counts begins eight words behind the last of
+-- these: readers change the counts, and look at all that is before in other cache lines.
 use Rattle.std.specs.Prelude.{◌≡◌, ℕ, suc, ◌+◌, ◌*◌, ◌%◌, ◌≤◌, false, List, [], ◌∷◌, length}
 use Rattle.std.specs.Prelude.{slice_index, None}
 use Rattle.atomic_table.specs.Table.{State}
@@ -20,19 +21,19 @@ abbrev pub value_at : ℕ → ℕ → ℕ
 value_at places s = 3 + s % places
 
 abbrev pub count_at : ℕ → ℕ → ℕ
-count_at places g = 3 + places + g % suc places
+count_at places g = 10 + places + g % suc places
 
 abbrev pub root_word : ℕ → ℕ → ℕ
 root_word places s = 1024 * s + s % places
 
 -- the ring of counts in these words
 abbrev pub ring_of : ℕ → List ℕ → ℕ → ℕ
-ring_of places words i = slice_index words (3 + places + i)
+ring_of places words i = slice_index words (10 + places + i)
 
 -- The words show the owner's part and the counts.
 pub record Shows (places : ℕ) (tallies : List Tally) (part : OwnerPart) (words : List ℕ) : Type 0
   where
-    pub wide : length words ≡ 4 + 2 * places
+    pub wide : length words ≡ 11 + 2 * places
     pub root : slice_index words 0 ≡ root_word places part.sequence
     pub current : slice_index words 1 ≡ part.current
     pub oldest : slice_index words 2 ≡ part.oldest

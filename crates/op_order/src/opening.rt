@@ -11,6 +11,7 @@ use crate::fact::Fact;
 use crate::plays::Deal;
 use crate::rule::OrderKey;
 use crate::seats::{Owner, Reader};
+use crate::spots::Spots;
 use crate::table::OpOrder;
 use crate::view::View;
 use crate::word::EXPIRED;
@@ -23,12 +24,12 @@ fn first_words(alloc: Global, places: u64, first: u64) -> Result<Vec<u64>, Alloc
     requires { (2 ≤ places) × (places ≤ 1024) }
     ensures { IfOk result (λ v. AreFirst places first v.items) }
 {
-    let mut words = Vec::from_elem(alloc, EXPIRED, (4 + 2 * places) as usize)?;
+    let mut words = Vec::from_elem(alloc, EXPIRED, (11 + 2 * places) as usize)?;
     words[0] = 0;
     words[1] = 0;
     words[2] = 0;
     words[3] = first;
-    words[3 + places as usize] = 0;
+    words[10 + places as usize] = 0;
     Ok(words)
 }
 
@@ -42,7 +43,8 @@ impl<F: Fact> OpOrder<F> {
             × ReadsAs result.seat new_reader }
     {
         let seat = self.table.shared.split_seat::<Deal>(seat);
-        Reader { seat }
+        let spots = Spots::new(self.places);
+        Reader { seat, spots }
     }
 
     // Opens the table alone, with the owner's seat.

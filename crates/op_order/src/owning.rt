@@ -12,6 +12,7 @@ use crate::fact::Fact;
 use crate::plays::{
     AdvanceOldest, ExpireGroup, LookOldest, MoveCurrent, OpenGroup, StorePlace, StoreRoot,
 };
+use crate::spots::{count_at, value_at};
 use crate::table::OpOrder;
 use crate::view::View;
 use crate::word::{EXPIRED, GROUP};
@@ -30,7 +31,7 @@ impl<F: Fact> OpOrder<F> {
     {
         self.table
             .shared
-            .store::<StorePlace>(seat, self.value_at(next), value);
+            .store::<StorePlace>(seat, value_at(self.places, next), value);
     }
 
     /// That place becomes the root.
@@ -54,7 +55,7 @@ impl<F: Fact> OpOrder<F> {
     {
         self.table
             .shared
-            .store::<OpenGroup>(seat, self.count_at(group), GROUP * group);
+            .store::<OpenGroup>(seat, count_at(self.places, group), GROUP * group);
     }
 
     /// That group becomes the current one.
@@ -76,7 +77,7 @@ impl<F: Fact> OpOrder<F> {
     {
         self.table
             .shared
-            .fetch_add::<ExpireGroup>(seat, self.count_at(group), EXPIRED);
+            .fetch_add::<ExpireGroup>(seat, count_at(self.places, group), EXPIRED);
     }
 
     /// The owner looks at the count of the oldest group. Returns the word found: the group is
@@ -96,7 +97,7 @@ impl<F: Fact> OpOrder<F> {
     {
         self.table
             .shared
-            .load::<LookOldest>(seat, self.count_at(oldest))
+            .load::<LookOldest>(seat, count_at(self.places, oldest))
     }
 
     /// The oldest group moves on.

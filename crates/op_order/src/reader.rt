@@ -5,7 +5,7 @@ ghost use Rattle.op_order.specs.Operations.{Starts, Looks, Finds, Ends};
 use crate::fact::Fact;
 use crate::seats::{Reader, Running, Seen};
 use crate::table::OpOrder;
-use crate::word::{EXPIRED, group_in};
+use crate::word::is_open;
 
 impl<F: Fact> OpOrder<F> {
     /// Starts an operation in the current group (`OpOrder.start`), by one try. It is refused where
@@ -15,23 +15,25 @@ impl<F: Fact> OpOrder<F> {
         requires { reader.seat.table_id ≡ self.now.table.shared.table_id }
         ensures { Starts result self.now.table.shared.table_id self.now.places reader }
     {
-        let Reader { mut seat } = reader;
+        let Reader {
+            mut seat,
+            mut spots,
+        } = reader;
         let group = self.look_current(&mut seat);
-        let count = self.count_at(group);
+        let count = spots.count_of(group);
         let looked = self.look_count(&mut seat, group, count);
-        if looked >= EXPIRED || group_in(looked) != group {
+        if !is_open(looked, group) {
             let found = looked;
-            return Err((Reader { seat }, Seen { looked, found }));
+            return Err((Reader { seat, spots }, Seen { looked, found }));
         }
         let found = self.register(&mut seat, group, count, looked);
         if found != looked {
-            return Err((Reader { seat }, Seen { looked, found }));
+            return Err((Reader { seat, spots }, Seen { looked, found }));
         }
         let sequence = None;
         Ok(Running {
             seat,
-            group,
-            count,
+            spots,
             sequence,
         })
     }
@@ -41,7 +43,7 @@ impl<F: Fact> OpOrder<F> {
         requires { op.old.seat.table_id ≡ self.now.table.shared.table_id }
         ensures { Looks result op.old op.new }
     {
-        let sequence = self.look_root(&mut op.seat, op.group);
+        let sequence = self.look_root(&mut op.seat, op.spots.group);
         op.sequence = Some(sequence);
         sequence
     }
@@ -54,7 +56,8 @@ impl<F: Fact> OpOrder<F> {
         ensures { Finds F.fits self.now.places result op.old op.new }
     {
         let sequence = op.sequence.unwrap();
-        self.look_value(&mut op.seat, sequence)
+        let place = op.spots.value_of(sequence);
+        self.look_value(&mut op.seat, sequence, place)
     }
 
     /// Ends the operation (`Group.close`): it holds no place any more. An operation that is dropped
@@ -65,11 +68,10 @@ impl<F: Fact> OpOrder<F> {
     {
         let Running {
             mut seat,
-            group,
-            count,
+            spots,
             sequence: _,
         } = op;
-        self.stop(&mut seat, group, count);
-        Reader { seat }
+        self.stop(&mut seat, spots.group, spots.count);
+        Reader { seat, spots }
     }
 }

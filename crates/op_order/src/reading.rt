@@ -26,7 +26,7 @@ impl<F: Fact> OpOrder<F> {
     pub(crate) fn look_count(&self, seat: &mut Seat<u64, View>, group: u64, count: usize) -> u64
         requires seat { IsReader self.now.table.shared.table_id seat.old }
         requires count { (count ≡ count_at self.now.places group)
-            × (count < 4 + 2 * self.now.places) }
+            × (count < 11 + 2 * self.now.places) }
         ensures step { ReaderSteps seat.old seat.new
             (with_step (count_at self.now.places group) result (read_of seat.old)) }
         ensures few { result < 2 ^ 63 → result % 65536 ≤ 64 }
@@ -47,7 +47,7 @@ impl<F: Fact> OpOrder<F> {
         requires idle { (read_of seat.old).group ≡ None }
         requires group { ((read_of seat.old).current ≡ group) × (group < 2 ^ 47) }
         requires count { (count ≡ count_at self.now.places group)
-            × (count < 4 + 2 * self.now.places) }
+            × (count < 11 + 2 * self.now.places) }
         requires looked { (looked < 2 ^ 63) × (number_in looked ≡ group)
             × (looked % 65536 ≤ 64) }
         ensures hit { result ≡ looked → ReaderSteps seat.old seat.new
@@ -71,17 +71,17 @@ impl<F: Fact> OpOrder<F> {
         self.table.shared.load::<LookRoot>(seat, 0) / 1024
     }
 
-    /// An operation that looked reads the value of its place.
-    pub(crate) fn look_value(&self, seat: &mut Seat<u64, View>, sequence: u64) -> u64
+    /// An operation that looked reads the value of its place, which stands at this word.
+    pub(crate) fn look_value(&self, seat: &mut Seat<u64, View>, sequence: u64, place: usize) -> u64
         requires seat { IsReader self.now.table.shared.table_id seat.old }
         requires looked { (read_of seat.old).looked ≡ Some sequence }
+        requires place { (place ≡ value_at self.now.places sequence)
+            × (place < 3 + self.now.places) }
         ensures step { ReaderSteps seat.old seat.new
             (with_step (value_at self.now.places sequence) result (read_of seat.old)) }
         ensures fits { F.fits sequence result }
     {
-        self.table
-            .shared
-            .load::<LookValue<F>>(seat, self.value_at(sequence))
+        self.table.shared.load::<LookValue<F>>(seat, place)
     }
 
     /// An operation ends, in the group whose count stands at this word.
@@ -89,7 +89,7 @@ impl<F: Fact> OpOrder<F> {
         requires seat { IsReader self.now.table.shared.table_id seat.old }
         requires group { (read_of seat.old).group ≡ Some group }
         requires count { (count ≡ count_at self.now.places group)
-            × (count < 4 + 2 * self.now.places) }
+            × (count < 11 + 2 * self.now.places) }
         ensures { (word : ℕ) × ReaderSteps seat.old seat.new
             (without_group (count_at self.now.places group) word (read_of seat.old)) }
     {

@@ -1,8 +1,9 @@
 //! The seats of an order: the owner's, that of each reader, and that of an operation that runs.
 //! Each has the seat of the table, whose view is what it knows, and the numbers that it acts by.
-ghost use Rattle.std.specs.Prelude.{◌≡◌, ◌≤◌, Some, None};
-ghost use Rattle.op_order.specs.Parts.{part_of, read_of, OwnsAs, ReadsAs, RestsAt, StandsAt};
+ghost use Rattle.std.specs.Prelude.{◌≡◌, ◌+◌, ◌*◌, ◌≤◌, Some, None};
+ghost use Rattle.op_order.specs.Parts.{part_of, read_of, OwnsAs, ReadsAs, RestsAt};
 
+use crate::spots::Spots;
 use crate::view::View;
 use atomic_table::Seat;
 
@@ -25,6 +26,9 @@ pub struct Owner {
 #[derive(Drop)]
 pub struct Reader {
     pub(crate) seat: Seat<u64, View>,
+    /// The words that it used last.
+    pub(crate) spots: Spots,
+    pub ghost wide: { seat.table_id.words ≡ 11 + 2 * spots.places },
     pub ghost reads: { ReadsAs seat (read_of seat) },
     pub ghost idle: { (read_of seat).group ≡ None },
 }
@@ -34,15 +38,13 @@ pub struct Reader {
 #[derive(Drop)]
 pub struct Running {
     pub(crate) seat: Seat<u64, View>,
-    /// The group in which it is counted.
-    pub(crate) group: u64,
-    /// Where the count of that group stands.
-    pub(crate) count: usize,
+    /// The words that it used last, with the group in which it is counted.
+    pub(crate) spots: Spots,
     /// The sequence of the root at which it looked last.
     pub(crate) sequence: Option<u64>,
+    pub ghost wide: { seat.table_id.words ≡ 11 + 2 * spots.places },
     pub ghost reads: { ReadsAs seat (read_of seat) },
-    pub ghost stands: { StandsAt seat.table_id.words group count },
-    pub ghost own: { ((read_of seat).group ≡ Some group) × ((read_of seat).looked ≡ sequence) },
+    pub ghost own: { ((read_of seat).group ≡ Some spots.group) × ((read_of seat).looked ≡ sequence) },
 }
 
 /// What a refused start found in the word of the group that it had found as the current one. In

@@ -1,6 +1,6 @@
 //! The word of a group's count: bits 0 to 15 are its operations, bits 16 to 62 its number, and the
 //! highest bit is set once it has expired.
-ghost use Rattle.std.specs.Prelude.{◌≡◌, ◌<◌, ◌^◌, ℕ};
+ghost use Rattle.std.specs.Prelude.{◌≡◌, ◌↔◌, ◌<◌, ◌^◌, ℕ, IsTrue};
 ghost use Rattle.op_core.specs.declared.count.Tally.{Tally};
 ghost use Rattle.op_core.specs.Tallies.{running_of, number_of};
 ghost use Rattle.op_core.specs.CountWords.{count_word, number_in};
@@ -11,11 +11,12 @@ pub(crate) const EXPIRED: u64 = 0x8000_0000_0000_0000;
 /// One in the bits of a group's number. Below lie those of its operations.
 pub(crate) const GROUP: u64 = 65_536;
 
-/// The number of the group whose word this is.
-pub(crate) fn group_in(word: u64) -> u64
-    ensures { result ≡ number_in word }
+/// Whether the word is this group's, without the mark: then its number is all above the operations.
+pub(crate) fn is_open(word: u64, group: u64) -> bool
+    requires { group < 2 ^ 47 }
+    ensures { IsTrue result ↔ (word < 2 ^ 63) × (number_in word ≡ group) }
 {
-    word % EXPIRED / GROUP
+    word / GROUP == group
 }
 
 /// The count that a word tells, as a signed number: -1 is an expired group with no operation left.

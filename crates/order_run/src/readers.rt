@@ -1,5 +1,5 @@
 //! What the readers do.
-ghost use Rattle.std.specs.Prelude.{◌≡◌, ◌+◌, ◌*◌, ◌≤◌, suc, IfOk, MatchResult, length};
+ghost use Rattle.std.specs.Prelude.{◌≡◌, ◌+◌, ◌*◌, ◌≤◌, suc, IfOk, length};
 ghost use Rattle.std.specs.List.{All};
 ghost use Rattle.order_run.specs.Rounds.{HasMade, HasRead, HaveRead, IsFresh, moves_of};
 
@@ -20,28 +20,8 @@ pub(crate) struct Reads {
     reads: u64,
 }
 
-// How often a start is tried at once, since the next try mostly finds no other reader in its way.
-const TRIES: u32 = 64;
-
-// Starts an operation by so many tries.
-fn try_start(order: &OpOrder<Products>, reader: Reader) -> Result<Running, Reader>
-    requires { reader.seat.table_id ≡ order.now.table.shared.table_id }
-    ensures { MatchResult result (λ op. (op.seat.table_id ≡ order.now.table.shared.table_id)
-        × (moves_of op.seat ≡ suc (moves_of reader.seat)))
-        (λ r. (r.seat.table_id ≡ order.now.table.shared.table_id)
-        × (moves_of r.seat ≡ moves_of reader.seat)) }
-{
-    let mut reader = reader;
-    for _ in 0..TRIES {
-        match order.start(reader) {
-            Ok(op) => return Ok(op),
-            Err((refused, _seen)) => reader = refused,
-        }
-    }
-    Err(reader)
-}
-
-// Starts an operation. No clause says that it returns.
+// Starts an operation. Refused, it gives way before it tries again: a try takes the word's cache line
+// from the readers that would change it. No clause says that it returns.
 fn start<R: Wait>(rt: &R, order: &OpOrder<Products>, reader: Reader) -> Running
     requires { reader.seat.table_id ≡ order.now.table.shared.table_id }
     ensures { (result.seat.table_id ≡ order.now.table.shared.table_id)
@@ -49,13 +29,11 @@ fn start<R: Wait>(rt: &R, order: &OpOrder<Products>, reader: Reader) -> Running
 {
     let mut reader = reader;
     for _ in rt.forever() {
-        match try_start(order, reader) {
+        match order.start(reader) {
             Ok(op) => return op,
-            Err(refused) => {
-                reader = refused;
-                yield_now();
-            }
+            Err((refused, _seen)) => reader = refused,
         }
+        yield_now();
     }
     unreachable!()
 }

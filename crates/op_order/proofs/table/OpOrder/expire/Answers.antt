@@ -13,7 +13,7 @@ fetch_add-requires g c = let t = c.args.self.now in let z = c.args.seat.now in
     let wide = t.wide in
     let inside = c.count_at.ensures.inside in
     let at : c.count_at.result ≡ count_at k c.args.group = c.count_at.ensures.at
-    ∙ ap (λ p. 3 + p + c.args.group % suc p) (sym t.keyed) in (
+    ∙ ap (λ p. 10 + p + c.args.group % suc p) (sym t.keyed) in (
       c.requires.seat.0,
       omega arith,
       subst (λ (i : ℕ). Allows (Ruled g.F.Fact.fits k) n z.id z.me i (λ n'. (n' + 2 ^ 63) % 2 ^ 64)

@@ -14,7 +14,7 @@ load-requires g c = let t = c.args.self.now in let z = c.args.seat.now in
     let wide = t.wide in
     let inside = c.requires.count.1 in
     let at : c.args.count ≡ count_at k c.args.group = c.requires.count.0
-    ∙ ap (λ p. 3 + p + c.args.group % suc p) (sym t.keyed) in (
+    ∙ ap (λ p. 10 + p + c.args.group % suc p) (sym t.keyed) in (
       c.requires.seat.0,
       omega arith,
       subst (λ (i : ℕ). Allows (Ruled g.F.Fact.fits k) n z.id z.me i (λ n'. n')

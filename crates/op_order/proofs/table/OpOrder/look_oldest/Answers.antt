@@ -18,8 +18,8 @@ load-requires g c = let t = c.args.self.now in let z = c.args.seat.now in
     let wide = t.wide in
     let inside = c.count_at.ensures.inside in
     let at : c.count_at.result ≡ count_at k (part_of z).oldest = c.count_at.ensures.at
-    ∙ (ap (λ p. 3 + t.places + p % suc t.places) (sym c.requires.oldest)
-    ∙ ap (λ p. 3 + p + (part_of z).oldest % suc p) (sym t.keyed)) in (
+    ∙ (ap (λ p. 10 + t.places + p % suc t.places) (sym c.requires.oldest)
+    ∙ ap (λ p. 10 + p + (part_of z).oldest % suc p) (sym t.keyed)) in (
       c.requires.seat.0,
       omega arith,
       subst (λ (i : ℕ). Allows (Ruled g.F.Fact.fits k) n z.id z.me i (λ n'. n')

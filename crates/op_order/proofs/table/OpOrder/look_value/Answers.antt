@@ -12,8 +12,8 @@ pub load-requires : goal.load-requires
 load-requires g c = let t = c.args.self.now in let z = c.args.seat.now in
     let k = t.table.shared.key.places in let n = t.table.shared.table_id.slots in
     let wide = t.wide in
-    let inside = c.value_at.ensures.inside in
-    let at : c.value_at.result ≡ value_at k c.args.sequence = c.value_at.ensures.at
+    let inside = c.requires.place.1 in
+    let at : c.args.place ≡ value_at k c.args.sequence = c.requires.place.0
     ∙ (ap (λ p. 3 + c.args.sequence % p) (sym t.keyed)) in (
       c.requires.seat.0,
       omega arith,
@@ -28,6 +28,6 @@ returns-clause-step g c = let z = c.args.seat.now in
     let q = (c.load.ensures.2 (read_of z) (ap (λ m. m.0) c.requires.seat.1)).0 in (
       c.load.ensures.0,
       q ∙ ap₂ (λ (i : ℕ) (l : List (ℕ × ℕ)).
-          (Reads (told.with_step i c.load.result (read_of z)), l)) c.value_at.ensures.at
+          (Reads (told.with_step i c.load.result (read_of z)), l)) c.requires.place.0
           (ap (λ m. m.1) c.requires.seat.1),
     )

@@ -16,8 +16,8 @@ compare_exchange-requires g c = let t = c.args.self.now in let z = c.args.seat.n
     let wide = t.wide in
     let inside = c.requires.count.1 in let r = read_of z in let w = c.args.looked in
     let at : c.args.count ≡ count_at k r.current = c.requires.count.0
-    ∙ (ap (λ p. 3 + t.places + p % suc t.places) (sym c.requires.group.0)
-    ∙ ap (λ p. 3 + p + r.current % suc p) (sym t.keyed)) in
+    ∙ (ap (λ p. 10 + t.places + p % suc t.places) (sym c.requires.group.0)
+    ∙ ap (λ p. 10 + p + r.current % suc p) (sym t.keyed)) in
     let low : w < 2 ^ 63 = c.requires.looked.0 in
     let few : w % 65536 ≤ 64 = c.requires.looked.2 in
     let old : w % 65536 + 65536 * r.current ≡ w
