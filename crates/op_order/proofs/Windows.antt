@@ -12,7 +12,7 @@ use Rattle.op_order.specs.declared.view.ReaderPart.{ReaderPart}
 use Rattle.op_order.specs.declared.view.View.{View}
 use Rattle.op_order.specs.declared.view.View.TheVariants.{Owns, Reads}
 use Rattle.op_order.specs.Law.{LooksAt, Knows}
-use Rattle.op_order.specs.Moments.{IsReadBy, RunsIn, IsLawfulAt}
+use Rattle.op_order.specs.Moments.{RunsIn, IsLawfulAt}
 use Rattle.op_order.specs.Places.{IsFree, HasOne, PublicationMoves, AdvanceFrees, HasPlace}
 use Rattle.op_order.specs.Rule.{Ruled}
 use Rattle.op_order.proofs.States.{inhabited, running_low, running_high, current_low}
@@ -88,16 +88,6 @@ module _ (fits : ℕ → ℕ → Type 0) (places : ℕ) {S : Type 0} (s : State 
         retired_not_free = λ z t f. f z t.0 (let u = t.1 in omega arith) t.2;
       }
 
-  -- it is among the sequences in use
-  place_held : (j z : ℕ) (r : ReaderPart) → get_elem? s.views j ≡ some (Reads r)
-      → r.looked ≡ Some z → (R.part.oldest ≤ z) × (z ≤ R.part.sequence)
-  place_held j z r at is =
-      let W = R.lawful in let L : LooksAt R.part r = W.knows j (Reads r) at in
-      let q = L.looked z is in
-      let run = inhabited R.part R.tallies s.views W.chain j q.0 r at q.1 in
-      let low = running_low R.part R.tallies s.views W.chain q.0 run in
-      let under = q.2 in (omega arith, q.3)
-
   has_place : (j z : ℕ) (r : ReaderPart) → get_elem? s.views j ≡ some (Reads r)
       → r.looked ≡ Some z → HasPlace fits places R.part s.words r z
   has_place j z r at is =
@@ -130,10 +120,11 @@ module _ (fits : ℕ → ℕ → Type 0) (places : ℕ) {S : Type 0} (s : State 
   owned : (j : ℕ) (p : OwnerPart) → get_elem? s.views j ≡ some (Owns p) → p ≡ R.part
   owned j p at = let k : Knows R.boss R.part j (Owns p) = R.lawful.knows j (Owns p) at in k.1
 
-  next_unread : suc R.part.sequence < R.part.oldest + places → (j z : ℕ) (r : ReaderPart)
-      → IsReadBy s.views j r z → z % places ≢ suc R.part.sequence % places
-  next_unread room j z r reads = let q = place_held j z r reads.0 reads.1 in
-      next_free room z q.0 q.1
+  next_unread : suc R.part.sequence < R.part.oldest + places → (j g z : ℕ) (r : ReaderPart)
+      → RunsIn s.views j r g → g ≤ z → z ≤ R.part.sequence
+      → z % places ≢ suc R.part.sequence % places
+  next_unread room j g z r is above most = let low = (runs j g r is).0 in
+      next_free room z (omega arith) most
 
   pub lawful_at : IsLawfulAt fits places R.part s
   lawful_at = record {
@@ -143,6 +134,8 @@ module _ (fits : ℕ → ℕ → Type 0) (places : ℕ) {S : Type 0} (s : State 
     current = R.shown.current;
     oldest = R.shown.oldest;
     tallies = R.tallies;
+    values = R.shown.values;
+    fit = R.lawful.values.fit;
     groups = R.lawful.chain;
     counted = R.shown.ring.shown;
     runs = runs;

@@ -10,9 +10,9 @@ use Rattle.op_order.specs.declared.view.OwnerPart.{OwnerPart}
 use Rattle.op_order.specs.declared.view.ReaderPart.{ReaderPart}
 use Rattle.op_order.specs.declared.view.View.{View}
 use Rattle.op_order.specs.declared.view.View.TheVariants.{Owns, Reads}
-use Rattle.op_order.specs.Law.{top_of, CountsAre}
+use Rattle.op_order.specs.Law.{top_of, value_of, CountsAre}
 use Rattle.op_order.specs.Places.{HasOne, HasPlace, IsFree}
-use Rattle.op_order.specs.Rule.{count_at, root_word}
+use Rattle.op_order.specs.Rule.{count_at, root_word, value_at}
 
 -- some reader's operation has looked at the root of this sequence
 abbrev pub IsReadBy : List View → ℕ → ReaderPart → ℕ → Type 0
@@ -31,6 +31,10 @@ pub record IsLawfulAt (fits : ℕ → ℕ → Type 0) (places : ℕ) (part : Own
   pub each : (i : ℕ) → i < places → HasOne places part.oldest part.sequence i
   pub current : slice_index s.words 1 ≡ part.current
   pub oldest : slice_index s.words 2 ≡ part.oldest
+  -- the words have the values of the places in use, and each value published fits its sequence
+  pub values : (z : ℕ) → part.oldest ≤ z → z ≤ part.sequence
+      → slice_index s.words (value_at places z) ≡ value_of part.values z
+  pub fit : (z : ℕ) → z ≤ part.sequence → fits z (value_of part.values z)
   -- The counts of the groups: which are open, which expired, which finished; each tells as many
   -- operations as run in its group, and so do the words from the oldest group to the last one.
   pub tallies : List Tally
@@ -45,5 +49,8 @@ pub record IsLawfulAt (fits : ℕ → ℕ → Type 0) (places : ℕ) (part : Own
   -- the place that is written next, where the owner may write one
   pub next_free : suc part.sequence < part.oldest + places
       → IsFree places part.oldest part.sequence (suc part.sequence % places)
-  pub next_unread : suc part.sequence < part.oldest + places → (j z : ℕ) (r : ReaderPart)
-      → IsReadBy s.views j r z → z % places ≢ suc part.sequence % places
+  -- It is no place that an operation which runs has looked at: each look of an operation finds a
+  -- sequence at or above its group.
+  pub next_unread : suc part.sequence < part.oldest + places → (j g z : ℕ) (r : ReaderPart)
+      → RunsIn s.views j r g → g ≤ z → z ≤ part.sequence
+      → z % places ≢ suc part.sequence % places

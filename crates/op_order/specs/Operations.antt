@@ -28,7 +28,8 @@ looking places current looked r =
 
 -- The word was that of an open group of this number, and was still the same when the operation
 -- registered in it.
-pub record Registers (places group : ℕ) (r r' : ReaderPart) : Type 0 where
+pub record Registers (places : ℕ) (r r' : ReaderPart) : Type 0 where
+  pub group : ℕ
   pub word : ℕ
   pub unmarked : word < 2 ^ 63
   pub number : number_in word ≡ group
@@ -54,14 +55,13 @@ pub record Refuses (places looked found : ℕ) (r r' : ReaderPart) : Type 0 wher
 -- What a start answers.
 abbrev pub Starts : Result Running (Reader × Seen) → TableId → ℕ → Reader → Type 0
 Starts (Ok op) z places reader = (op.seat.table_id ≡ z) × (op.sequence ≡ None)
-    × Registers places op.spots.group (read_of reader.seat) (read_of op.seat)
+    × Registers places (read_of reader.seat) (read_of op.seat)
 Starts (Err (reader', seen)) z places reader = (reader'.seat.table_id ≡ z)
     × Refuses places seen.looked seen.found (read_of reader.seat) (read_of reader'.seat)
 
 -- A look finds the root of this sequence, which is not below one that the reader found before.
 pub record Looks (sequence : ℕ) (op op' : Running) : Type 0 where
   pub table : op'.seat.table_id ≡ op.seat.table_id
-  pub group : op'.spots.group ≡ op.spots.group
   pub looked : op'.sequence ≡ Some sequence
   pub later : (read_of op.seat).seen ≤ sequence
   pub word : ℕ
@@ -71,7 +71,6 @@ pub record Looks (sequence : ℕ) (op op' : Running) : Type 0 where
 -- The value is found in the place of the sequence at which the operation looked, and fits that.
 pub record Finds (fits : ℕ → ℕ → Type 0) (places value : ℕ) (op op' : Running) : Type 0 where
   pub table : op'.seat.table_id ≡ op.seat.table_id
-  pub group : op'.spots.group ≡ op.spots.group
   pub same : op'.sequence ≡ op.sequence
   pub sequence : ℕ
   pub looked : op.sequence ≡ Some sequence
@@ -81,6 +80,7 @@ pub record Finds (fits : ℕ → ℕ → Type 0) (places value : ℕ) (op op' : 
 -- The operation leaves its group.
 pub record Ends (places : ℕ) (op : Running) (reader : Reader) : Type 0 where
   pub table : reader.seat.table_id ≡ op.seat.table_id
+  pub group : ℕ
+  pub own : (read_of op.seat).group ≡ Some group
   pub word : ℕ
-  pub now : read_of reader.seat
-      ≡ without_group (count_at places op.spots.group) word (read_of op.seat)
+  pub now : read_of reader.seat ≡ without_group (count_at places group) word (read_of op.seat)

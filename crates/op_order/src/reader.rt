@@ -49,7 +49,7 @@ impl<F: Fact> OpOrder<F> {
     }
 
     /// The value in the place at which the operation looked last. It fits the sequence of that
-    /// look (`Finds`); that it is the one published under it tells `each_moment_is_lawful`.
+    /// look (`Finds`); with `each_moment_is_lawful` it is the one published under it.
     pub fn value(&self, op: &mut Running) -> u64
         requires op { op.old.seat.table_id ≡ self.now.table.shared.table_id }
         requires looked { IsSome op.old.sequence }

@@ -44,7 +44,8 @@ pub struct Running {
     pub(crate) sequence: Option<u64>,
     pub ghost wide: { seat.table_id.words ≡ 11 + 2 * spots.places },
     pub ghost reads: { ReadsAs seat (read_of seat) },
-    pub ghost own: { ((read_of seat).group ≡ Some spots.group) × ((read_of seat).looked ≡ sequence) },
+    pub ghost own: { ((read_of seat).group ≡ Some spots.group)
+        × ((read_of seat).looked ≡ sequence) },
 }
 
 /// What a refused start found in the word of the group that it had found as the current one. In

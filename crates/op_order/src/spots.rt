@@ -55,7 +55,7 @@ impl Spots {
         }
     }
 
-    /// Where the count of a group stands. It keeps both.
+    /// Where the count of a group stands, which it keeps with the group.
     pub(crate) fn count_of(&mut self, group: u64) -> usize
         ensures places { self.new.places ≡ self.old.places }
         ensures group { self.new.group ≡ group }
@@ -71,7 +71,7 @@ impl Spots {
         count
     }
 
-    /// Where the value of a sequence stands. It keeps both.
+    /// Where the value of a sequence stands, which it keeps with the sequence.
     pub(crate) fn value_of(&mut self, sequence: u64) -> usize
         ensures places { self.new.places ≡ self.old.places }
         ensures group { self.new.group ≡ self.old.group }

@@ -1,9 +1,9 @@
 //! The table that the owner and the readers share, and what each word of it is.
 //!
 //! Word 0 is the root (its sequence above its place), word 1 the current group, word 2 the oldest
-//! one. Behind them stand the values of the places, then seven words that are not used, and then the
-//! counts of the groups: an operation changes a count twice and looks at words before, so no cache
-//! line is to have both.
+//! one. Behind them stand the values of the places, then seven words that are not used, and then
+//! the counts of the groups: an operation changes a count twice and looks at words before, so no
+//! cache line is to have both.
 ghost use Rattle.std.specs.Prelude.{◌≡◌, ◌+◌, ◌*◌, ◌≤◌};
 
 use crate::fact::Fact;

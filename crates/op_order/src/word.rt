@@ -11,7 +11,8 @@ pub(crate) const EXPIRED: u64 = 0x8000_0000_0000_0000;
 /// One in the bits of a group's number. Below lie those of its operations.
 pub(crate) const GROUP: u64 = 65_536;
 
-/// Whether the word is this group's, without the mark: then its number is all above the operations.
+/// Whether the word is this group's, and not marked: then all above its operations is the group's
+/// number.
 pub(crate) fn is_open(word: u64, group: u64) -> bool
     requires { group < 2 ^ 47 }
     ensures { IsTrue result ↔ (word < 2 ^ 63) × (number_in word ≡ group) }

@@ -16,12 +16,12 @@ use std::thread::{Threads, yield_now};
 pub(crate) struct Reads {
     /// It runs no operation.
     reader: Reader,
-    /// Each looked at the root and read the value there.
+    /// Of each is known that it started and ended.
     reads: u64,
 }
 
-// Starts an operation. Refused, it gives way before it tries again: a try takes the word's cache line
-// from the readers that would change it. No clause says that it returns.
+// Starts an operation. Refused, it gives way before it tries again: a try takes the word's cache
+// line from the readers that would change it. No clause says that it returns.
 fn start<R: Wait>(rt: &R, order: &OpOrder<Products>, reader: Reader) -> Running
     requires { reader.seat.table_id ≡ order.now.table.shared.table_id }
     ensures { (result.seat.table_id ≡ order.now.table.shared.table_id)
