@@ -22,7 +22,7 @@ use Rattle.replay_merge.specs.declared.piped.Entry.{Entry as Item}
 use Rattle.replay_merge.specs.Piped.{IsGood, placed_of}
 use Rattle.replay_merge.specs.Places.{AreGiven, IsGivenAt}
 use Rattle.replay_merge.specs.Streaming.{IsReadOf, entry_in}
-use Rattle.replay_merge.proofs.Joined.{picks_split}
+use Rattle.replay_merge.proofs.Picked.{picks_split}
 
 abbrev pub AllGood : List Item → Type 0
 AllGood items = (e : Item) → Contains items e → IsGood e

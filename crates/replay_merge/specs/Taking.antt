@@ -13,19 +13,6 @@ use Rattle.clog_folder.specs.Folder.{PlacedPayload, Say}
 use Rattle.replay_merge.specs.declared.merged.Merged.{Merged}
 use Rattle.replay_merge.specs.Merged.{IsMergedOf, Takes, keyed, updates_of}
 
--- the entries lie in the segment's bytes
-abbrev pub AreRanges : SegmentHeld → Type 0
-AreRanges held = All (IsRange (length held.bytes)) held.entries
-
--- The mutation of an entry is taken in.
-pub record TakesEntry (tables : List TableHeld) (id : ℕ) (bytes : List ℕ) (found : Found)
-    (old new : Merged) : Type 0 where
-  pub mutation : Mutation
-  pub said : IsPayload (payload_in bytes found) mutation
-  pub takes :
-      Takes tables
-      (map (keyed (record { id = id; offset = found.end }) mutation.key) mutation.updates) old new
-
 -- The mutations of these payloads are taken in.
 pub record TakesLog (tables : List TableHeld) (ps : List PlacedPayload) (old new : Merged) : Type 0
   where
