@@ -1,11 +1,10 @@
 -- What one thread took of the entries of a folder is its log.
-use Rattle.std.proofs.Common.{◌≡◌, ℕ, List, map, false, Option, Some, None, IfSome, Result, Ok}
+use Rattle.std.proofs.Common.{ℕ, List, map, false, Option, Some, None, IfSome, Result, Ok}
 use Rattle.std.proofs.Common.{refl, subst}
 use Rattle.clog_base.specs.declared.position.Position.{Position}
 use Rattle.clog_disk.specs.Files.{Files}
 use Rattle.clog_folder.specs.declared.fault.OpenFault.{OpenFault}
 use Rattle.clog_folder.specs.declared.tables.TableHeld.{TableHeld}
-use Rattle.clog_folder.specs.Folder.{PlacedPayload}
 use Rattle.clog_folder.specs.Segments.{Row}
 use Rattle.replay_merge.specs.declared.piped.Entry.{Entry as Item}
 use Rattle.replay_merge.specs.declared.piped.Piped.{Piped}

@@ -1,5 +1,6 @@
 -- What is answered of a folder whose segments were read and merged: for private clauses.
-use Rattle.std.specs.Prelude.{◌≡◌, ◌⊎◌, ℕ, List, Bool, false, Option, Some, None, IfSome, ⊤, Result, Ok}
+use Rattle.std.specs.Prelude.{◌≡◌, ◌⊎◌, ℕ, List, Bool, false, Option, Some, None, IfSome, ⊤, Result}
+use Rattle.std.specs.Prelude.{Ok}
 use Rattle.std.specs.declared.result.Result.TheVariants as result
 use Rattle.clog_spec.specs.Names.{segment_name_of}
 use Rattle.clog_disk.specs.Files.{Files}

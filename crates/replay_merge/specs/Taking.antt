@@ -1,17 +1,11 @@
 -- What the steps of merging a log answer: for private clauses.
-use Rattle.std.specs.Prelude.{ℕ, List, length, map, All}
+use Rattle.std.specs.Prelude.{List}
 use Rattle.std.specs.List.{flat_map}
-use Rattle.clog_mutation.specs.declared.mutation.Mutation.{Mutation}
-use Rattle.clog_mutation.specs.Stored.{IsPayload}
-use Rattle.clog_scan.specs.declared.answer.Found.{Found}
-use Rattle.clog_scan.specs.Laws.{IsRange}
 use Rattle.clog_crash.specs.Counts.{LoggedMutation}
-use Rattle.clog_folder.specs.declared.segment.SegmentHeld.{SegmentHeld}
 use Rattle.clog_folder.specs.declared.tables.TableHeld.{TableHeld}
-use Rattle.clog_folder.specs.Entries.{payload_in}
 use Rattle.clog_folder.specs.Folder.{PlacedPayload, Say}
 use Rattle.replay_merge.specs.declared.merged.Merged.{Merged}
-use Rattle.replay_merge.specs.Merged.{IsMergedOf, Takes, keyed, updates_of}
+use Rattle.replay_merge.specs.Merged.{IsMergedOf, Takes, updates_of}
 
 -- The mutations of these payloads are taken in.
 pub record TakesLog (tables : List TableHeld) (ps : List PlacedPayload) (old new : Merged) : Type 0

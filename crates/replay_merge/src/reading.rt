@@ -1,5 +1,5 @@
 //! A folder's log is read and merged by the caller alone, for those who start no thread.
-ghost use Rattle.std.specs.Prelude.{◌≤◌, IfSome};
+ghost use Rattle.std.specs.Prelude.{IfSome};
 ghost use Rattle.clog_crash.specs.Folder.{IsHeld};
 ghost use Rattle.clog_folder.specs.Listing.{AreRows, IsSegmentAt, segment_cmp};
 ghost use Rattle.clog_folder.specs.Passing.{IsUntouched, TellsEach};

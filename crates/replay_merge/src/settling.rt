@@ -1,15 +1,10 @@
 //! A folder's segments are read and merged, and what is answered first is decided. Nothing is
 //! answered before all threads have ended.
-ghost use Rattle.std.specs.Prelude.{◌≡◌, ◌≤◌, ℕ, IfSome};
+ghost use Rattle.std.specs.Prelude.{◌≤◌, ℕ, IfSome};
 ghost use Rattle.clog_crash.specs.Folder.{IsHeld};
 ghost use Rattle.clog_folder.specs.Listing.{AreRows, IsSegmentAt, segment_cmp};
 ghost use Rattle.clog_folder.specs.Passing.{IsUntouched, TellsEach};
-ghost use Rattle.replay_merge.specs.Settling.{
-  ChecksPiped,
-  IsFirstFault,
-  PipesFolder,
-  SettlesTo,
-};
+ghost use Rattle.replay_merge.specs.Settling.{ChecksPiped, IsFirstFault, PipesFolder, SettlesTo};
 
 use crate::piped::{Entry, Piped};
 use crate::source::pipe_places;
