@@ -1,5 +1,6 @@
 -- What the log restores: its cells are those of the folder, and they can be written.
-use Rattle.std.proofs.Common.{◌≡◌, ℕ, List, [], ◌∷◌, map, Contains, sym, ap, subst, inl, inr, eq-eqb, eqb-true}
+use Rattle.std.proofs.Common.{◌≡◌, ℕ, List, [], ◌∷◌, map, Contains, sym, ap, subst, inl, inr}
+use Rattle.std.proofs.Common.{eq-eqb, eqb-true}
 use Rattle.std.specs.List.{AllByRecursion, flat_map}
 use Rattle.std.proofs.lemmas.Map.Keys.{IsDistinct-from_sorted}
 use Rattle.std.proofs.lemmas.Map.Views.{lookup-from_Contains}
@@ -8,15 +9,8 @@ use Rattle.clog_base.specs.declared.cell.CellKey.{CellKey}
 use Rattle.clog_base.specs.declared.cell.Kind.{Kind}
 use Rattle.clog_base.specs.declared.cell.Kind.TheVariants.{Deletion, Live}
 use Rattle.clog_base.specs.declared.cell.Table.{Table}
-use Rattle.clog_base.proofs.Members.{
-  all_have,
-  first_or_further,
-  from_flat,
-  from_map,
-  further,
-  here,
-  nothing_there,
-}
+use Rattle.clog_base.proofs.Members.{all_have, first_or_further, from_flat, from_map, further, here}
+use Rattle.clog_base.proofs.Members.{nothing_there}
 use Rattle.clog_cells.specs.Merge.{IsMergeOf, IsNewestAmong, key_cmp, part_on}
 use Rattle.clog_cells.proofs.Merging.{of_same}
 use Rattle.clog_cells.proofs.Orders.{key_equiv}

@@ -22,9 +22,9 @@ module _ {D : Type 0} {files : D → Option Files} {changes : D → Option (List
     {lasted_at : D → ℕ → Type 0} {faults : D → ℕ} {old mid : D}
     (looked : IsUntouched files changes leaves moment since read_at lasted_at faults old mid) where
   -- its names were listed before
-  pub listed_first : {before : D} → Unchanged (files before) (files old) (leaves before) (leaves old)
-      → changes old ≡ changes before → Elapses moment since leaves read_at lasted_at before old
-      → faults before ≤ faults old
+  pub listed_first : {before : D}
+      → Unchanged (files before) (files old) (leaves before) (leaves old) → changes old ≡ changes before
+      → Elapses moment since leaves read_at lasted_at before old → faults before ≤ faults old
       → IsUntouched files changes leaves moment since read_at lasted_at faults before mid
   listed_first {before} same quiet time later =
       passing.both files changes leaves moment since read_at lasted_at faults before old mid

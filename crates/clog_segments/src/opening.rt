@@ -41,8 +41,7 @@ use clog_disk::Disk;
 use clog_folder::{OpenFault, fault_of};
 use std::alloc::Global;
 
-/// Recovers a folder that has these names, and of which the log was read: it restores these cells,
-/// and reaches so far.
+/// Recovers a folder of these names, whose log restores these cells and reaches so far.
 fn recover_folder<D: Disk>(
     alloc: Global,
     disk: &mut D,
@@ -93,12 +92,9 @@ fn recover_folder<D: Disk>(
 /// What is known of a folder that can be opened.
 #[derive(Drop)]
 struct Known {
-    /// The cells that its log restores.
     cells: CellMap,
-    /// How far its log reaches.
     top: Position,
     names: Rows<Name>,
-    /// Where its log goes on.
     base: u64,
 }
 
@@ -137,10 +133,10 @@ fn look<D: Disk>(alloc: Global, disk: &mut D, moment: u64) -> Result<Known, Open
 /// moment is one in milliseconds.
 ///
 /// Table files are read first, then segments in pieces of at most 64 KiB, each refused where it is
-/// the first that is bad; then the limits on sequences and on ids are looked at. Recovery puts files of new names, each with
-/// the newest cells of one table that the log restores, one for each table that has such cells, in
-/// the order of tables; then it removes the segments in the order of their ids. It changes nothing
-/// else.
+/// the first that is bad; then the limits on sequences and on ids are looked at. Recovery puts files
+/// of new names, each with the newest cells of one table that the log restores, one for each table
+/// that has such cells, in the order of tables; then it removes the segments in the order of their
+/// ids. It changes nothing else.
 ///
 /// - `Disk`: only where the disk's count of faults has risen in this call. Else it stays.
 /// - `BadTable`, `Damaged`, `Limit`: exactly where the folder is so. The disk is then as it was.

@@ -50,9 +50,9 @@ fn checked(piped: Option<Piped>, ignore: bool) -> Result<Piped, OpenFault>
     Err(OpenFault::Damaged(segment_name(refused.id), refused.start, cause))
 }
 
-/// What is answered of segments that were read so far, and of what was taken of them. Where refusals
-/// stand together, the first of these is answered: a fault of the disk; want of memory; without
-/// `ignore` the least refused payload by position; the place at which reading stopped.
+/// What is answered of segments that were read so far, and of what was taken of them. Where
+/// refusals stand together, the first of these is answered: a fault of the disk; want of memory;
+/// without `ignore` the least refused payload by position; the place at which reading stopped.
 pub(crate) fn settle(
     streamed: Result<(), OpenFault>,
     piped: Option<Piped>,
