@@ -9,7 +9,7 @@ use Rattle.clog_base.specs.declared.position.Position.{Position}
 use Rattle.clog_disk.specs.Files.{Files}
 use Rattle.clog_crash.specs.Damage.{AreSegmentFiles}
 use Rattle.clog_folder.specs.declared.fault.OpenFault.{OpenFault}
-use Rattle.clog_folder.specs.declared.segment.SegmentHeld.{SegmentHeld}
+use Rattle.clog_folder.specs.Segments.{SegmentHeld}
 use Rattle.clog_folder.specs.declared.tables.TableHeld.{TableHeld}
 use Rattle.clog_folder.specs.Folder.{FolderRefused, IsReadAs, PlacedPayload, payloads_of}
 use Rattle.clog_folder.specs.Tables.{read_of}

@@ -13,11 +13,10 @@ use Rattle.clog_scan.specs.declared.answer.Found.{Found}
 use Rattle.clog_scan.specs.Laws.{AreLaidOut, place_of}
 use Rattle.clog_scan.specs.Segment.{found_of}
 use Rattle.clog_scan.proofs.Order.{laid}
-use Rattle.clog_folder.specs.declared.segment.SegmentHeld.{SegmentHeld}
 use Rattle.clog_folder.specs.Entries.{EndsWell, IsGoodIn}
 use Rattle.clog_folder.specs.Folder.{payloads_of, placed}
 use Rattle.clog_folder.specs.Listing.{Picks}
-use Rattle.clog_folder.specs.Segments.{AreHeld, IsHeldAt, Row}
+use Rattle.clog_folder.specs.Segments.{AreHeld, IsHeldAt, Row, SegmentHeld}
 use Rattle.replay_merge.specs.declared.piped.Entry.{Entry as Item}
 use Rattle.replay_merge.specs.Piped.{IsGood, placed_of}
 use Rattle.replay_merge.specs.Places.{AreGiven, IsGivenAt}

@@ -26,11 +26,10 @@ use Rattle.clog_crash.specs.Folder.{TableRead, cells_in, cells_of_tables, place_
 use Rattle.clog_crash.specs.Restore.{IsInInterval, IsLoggedCell, IsRestored, IsSkipped, Restores}
 use Rattle.clog_crash.specs.Restore.{end_position}
 use Rattle.clog_crash.proofs.TableFiles.{in_table_cell, known_read, table_cell_in}
-use Rattle.clog_folder.specs.declared.segment.SegmentHeld.{SegmentHeld}
 use Rattle.clog_folder.specs.declared.tables.TableHeld.{TableHeld}
 use Rattle.clog_folder.specs.Folder.{IsReadAs, AreNamed, PlacedPayload, Say, payloads_of}
 use Rattle.clog_folder.specs.Listing.{AreRows, IsSegmentAt, Picks, segment_cmp}
-use Rattle.clog_folder.specs.Segments.{HaveHeld, Row}
+use Rattle.clog_folder.specs.Segments.{HaveHeld, Row, SegmentHeld}
 use Rattle.clog_folder.specs.Tables.{HaveRead, read_of}
 use Rattle.clog_folder.proofs.Counting.{picks_all}
 use Rattle.clog_folder.proofs.EntriesCounted.{picks_have}

@@ -9,10 +9,9 @@ use Rattle.clog_base.specs.Positions.{IsUpTo}
 use Rattle.clog_disk.specs.Files.{Files}
 use Rattle.clog_crash.specs.Counts.{LoggedMutation}
 use Rattle.clog_folder.specs.declared.fault.OpenFault.{OpenFault}
-use Rattle.clog_folder.specs.declared.segment.SegmentHeld.{SegmentHeld}
 use Rattle.clog_folder.specs.declared.tables.TableHeld.{TableHeld}
 use Rattle.clog_folder.specs.Folder.{PlacedPayload, Say, payloads_of}
-use Rattle.clog_folder.specs.Segments.{HaveHeld, Row, SegmentsRefused}
+use Rattle.clog_folder.specs.Segments.{HaveHeld, Row, SegmentHeld, SegmentsRefused}
 use Rattle.replay_merge.specs.declared.merged.Merged.{Merged}
 use Rattle.replay_merge.specs.declared.reading.Logged.{Logged}
 use Rattle.replay_merge.specs.Merged.{IsMergedOf, updates_of}

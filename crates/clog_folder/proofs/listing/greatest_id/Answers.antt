@@ -1,5 +1,5 @@
 use Rattle.clog_folder.proofs.SegmentsRead.{greatest_of}
-use Rattle.clog_folder.proofs.segments.greatest_id.Goals as goal
+use Rattle.clog_folder.proofs.listing.greatest_id.Goals as goal
 
 pub returns-in-Some : goal.returns-in-Some
 returns-in-Some c =
