@@ -1,5 +1,5 @@
--- The entries that count, one after another.
-use Rattle.std.proofs.Common.{List, [], ◌∷◌, ◌++◌, ◌+◌, Contains, sym, ap, subst, inl, inr}
+-- What is picked of lists, one behind another.
+use Rattle.std.proofs.Common.{List, [], ◌∷◌, ◌++◌, Contains, sym, ap, subst, inl, inr}
 use Rattle.clog_base.proofs.Members.{first_or_further, further, here, nothing_there}
 use Rattle.clog_folder.specs.Listing.{Picks}
 

@@ -1,7 +1,5 @@
 -- What a folder holds, read whole, and why it is refused.
 use Rattle.std.specs.Prelude.{◌≡◌, ℕ, List, [], ◌∷◌, length, map, Bool, false, Option, IfSome, ⊤}
-use Rattle.std.specs.Prelude.{Result}
-use Rattle.std.specs.declared.result.Result.TheVariants as result
 use Rattle.std.specs.List.{flat_map}
 use Rattle.clog_spec.specs.Names.{IsSegmentName}
 use Rattle.clog_spec.specs.Sizes.{file_limit}

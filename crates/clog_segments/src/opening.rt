@@ -9,27 +9,13 @@ ghost use Rattle.clog_crash.specs.Recovery.{NamesAny};
 ghost use Rattle.clog_crash.specs.Rest.{IsAtRest};
 ghost use Rattle.clog_folder.specs.declared.tables.TableHeld.{TableHeld as table_held};
 ghost use Rattle.clog_folder.specs.Passing.{IsUntouched, TellsEach};
-ghost use Rattle.clog_segments.specs.Filing.{
-  AreRecoveryPuts,
-  ComesFrom,
-  LeavesFrom,
-  StaysFrom,
-  StepCause,
-};
+ghost use Rattle.clog_segments.specs.Filing.{AreRecoveryPuts, ComesFrom, LeavesFrom, StaysFrom};
+ghost use Rattle.clog_segments.specs.Filing.{StepCause};
 ghost use Rattle.clog_segments.specs.Live.{IsLogOf};
 ghost use Rattle.clog_segments.specs.Named.{IsLateTable};
-ghost use Rattle.clog_segments.specs.Opened.{
-  HasRows,
-  IsRecovered,
-  KeepsFolder,
-  LeavesAlone,
-  Looks,
-  Opens,
-  OthersStay,
-  RecoversAll,
-  RecoversFirst,
-  RecoversOnly,
-};
+ghost use Rattle.clog_segments.specs.Opened.{HasRows, IsRecovered, KeepsFolder, LeavesAlone, Looks};
+ghost use Rattle.clog_segments.specs.Opened.{Opens, OthersStay, RecoversAll, RecoversFirst};
+ghost use Rattle.clog_segments.specs.Opened.{RecoversOnly};
 
 use crate::naming::{SEQUENCE_LIMIT, base_of, has_late_table, segment_ids};
 use crate::reading::read_both;

@@ -1,5 +1,5 @@
 -- What was merged is what the folder restores to, and what was counted is its counts.
-use Rattle.std.proofs.Common.{◌≡◌, ℕ, ◌+◌, suc, List, [], ◌∷◌, ◌++◌, length, map}
+use Rattle.std.proofs.Common.{◌≡◌, ℕ, suc, List, [], ◌∷◌, ◌++◌, length, map}
 use Rattle.std.proofs.Common.{append_assoc, Option, Some}
 use Rattle.std.proofs.Common.{None, Contains, refl, sym, ap, subst, ◌∙◌, inl, inr}
 use Rattle.std.specs.Prelude.{Bool, IfSome}
