@@ -1,87 +1,28 @@
 -- The whole folder is read: table files, and then segments.
-use Rattle.std.proofs.Common.{
-  ◌≡◌,
-  ℕ,
-  ◌≤◌,
-  ◌==◌,
-  List,
-  [],
-  ◌∷◌,
-  length,
-  map,
-  Bool,
-  Option,
-  Some,
-  None,
-  Contains,
-  refl,
-  sym,
-  ap,
-  subst,
-  ◌∙◌,
-  inl,
-  inr,
-  arith,
-}
+use Rattle.std.proofs.Common.{◌≡◌, ℕ, ◌≤◌, ◌==◌, List, map, Bool, Option, Some, None, Contains}
+use Rattle.std.proofs.Common.{refl, sym, ap, subst, ◌∙◌, inl, inr, arith}
 use Rattle.std.specs.Prelude.{IfSome, is_some}
 use Rattle.std.specs.FinMap as finmap
 use Rattle.std.specs.declared.cmp.Ordering.{Ordering}
-use Rattle.std.proofs.lemmas.List.Elements.{All-contains}
 use Rattle.clog_base.specs.declared.cell.Table.{Table}
 use Rattle.clog_base.specs.declared.fault.Quantity.TheVariants.{SegmentBytes}
 use Rattle.clog_spec.specs.Names.{IsSegmentName}
 use Rattle.clog_disk.specs.Files.{Files, Lists}
-use Rattle.clog_scan.specs.declared.answer.Found.{Found}
-use Rattle.clog_scan.specs.Laws.{IsFile, IsRange}
-use Rattle.clog_scan.specs.Segment.{found_of}
-use Rattle.clog_scan.proofs.Order.{ranges}
-use Rattle.clog_base.proofs.Members.{first_or_further, nothing_there}
-use Rattle.clog_crash.specs.Counts.{IsLog, IsLoggedMutation, IsNameOfTable, LoggedMutation}
+use Rattle.clog_scan.specs.Laws.{IsFile}
+use Rattle.clog_crash.specs.Counts.{IsLog, IsLoggedMutation, LoggedMutation}
 use Rattle.clog_crash.specs.Damage.{AreSegmentFiles}
-use Rattle.clog_crash.specs.Folder.{
-  AreGoodTables,
-  IsFirstBad,
-  IsHeld,
-  IsNameOf,
-  IsNameOfSegment,
-  place_cmp,
-}
+use Rattle.clog_crash.specs.Folder.{AreGoodTables, IsFirstBad, IsHeld, IsNameOf, place_cmp}
 use Rattle.clog_crash.proofs.OneMore.{some_is}
 use Rattle.clog_crash.proofs.TableFiles.{tables_are_good}
 use Rattle.clog_folder.specs.declared.fault.OpenFault.{OpenFault}
-use Rattle.clog_folder.specs.declared.fault.OpenFault.TheVariants.{
-  Disk,
-  Damaged,
-  BadTable,
-  Limit,
-  OutOfMemory,
-}
-use Rattle.clog_folder.specs.declared.folder.Folder.{Folder}
-use Rattle.clog_folder.specs.declared.segment.SegmentHeld.{SegmentHeld}
+use Rattle.clog_folder.specs.declared.fault.OpenFault.TheVariants.{Disk, Damaged, BadTable, Limit}
+use Rattle.clog_folder.specs.declared.fault.OpenFault.TheVariants.{OutOfMemory}
 use Rattle.clog_folder.specs.declared.tables.TableHeld.{TableHeld}
-use Rattle.clog_folder.specs.Folder.{
-  FolderRefused,
-  HasDamage,
-  HasLongSegment,
-  IsHeldOf,
-  IsReadAs,
-  AreNamed,
-  IsGoodEntry,
-}
+use Rattle.clog_folder.specs.Folder.{FolderRefused, HasDamage, HasLongSegment, IsReadAs}
 use Rattle.clog_folder.specs.Listing.{AreRows, IsSegmentAt, segment_cmp}
-use Rattle.clog_folder.specs.Segments.{
-  AreHeld,
-  HaveHeld,
-  IsDamagedFirst,
-  IsFirstLong,
-  IsHeldAt,
-  IsRead,
-  Row,
-  SegmentsRefused,
-}
+use Rattle.clog_folder.specs.Segments.{HaveHeld, IsDamagedFirst, IsFirstLong, IsHeldAt, IsRead, Row}
+use Rattle.clog_folder.specs.Segments.{SegmentHeld, SegmentsRefused}
 use Rattle.clog_folder.specs.Tables.{HaveRead, TablesRefused, read_of}
-use Rattle.clog_folder.specs.Entries.{IsGoodIn}
-use Rattle.clog_folder.proofs.EntriesCounted.{picks_have}
 use Rattle.clog_folder.proofs.Listed.{held_of, listed_of}
 use Rattle.clog_folder.proofs.RowsHeld.{IsLogOfRows, find_held, log_of_rows, row_is_read}
 use Rattle.clog_folder.proofs.SegmentsHeld.{at}
@@ -241,80 +182,3 @@ module _ (ignore : Bool) (held : Files) (rows : List Row) (helds : List SegmentH
       let inside = places.every (id, 6) name (bytes_there held name bytes there) named in
       let found = find_held held ignore have.greatest rows helds have.held row inside in
       file_of row (id == have.greatest) found.0 bytes refl there found.1
-
--- where the files are told, each segment is a file of bytes
-told_files : (ignore : Bool) (files : Option Files) (rows : List Row) (helds : List SegmentHeld)
-    → IfSome files (λ held. AreRows segment_cmp IsSegmentAt (IsHeld held) rows)
-    → HaveHeld ignore files rows helds → IfSome files AreSegmentFiles
-told_files ignore None rows helds places have = tt
-told_files ignore (Some held) rows helds places have =
-    segment_files ignore held rows helds places have
-
--- where the files are told, by the disk as it was
-told_as : (ignore : Bool) (files : Option Files) (rows : List Row) (helds : List SegmentHeld)
-    (tables : List TableHeld) (table_rows : List ((Table × ℕ) × List ℕ))
-    → IfSome files (λ held. AreRows segment_cmp IsSegmentAt (IsHeld held) rows)
-    → HaveHeld ignore files rows helds
-    → IfSome files (λ held. AreRows place_cmp IsNameOf (IsHeld held) table_rows)
-    → HaveRead files table_rows tables
-    → IfSome files (λ held. IsReadAs ignore held (map read_of tables) helds)
-told_as ignore None rows helds tables table_rows places have table_places read = tt
-told_as ignore (Some held) rows helds tables table_rows places have table_places read =
-    is_read_as ignore held rows helds places have tables table_rows table_places read
-
-entry_good : (ignore last : Bool) (files : Option Files) (row : Row) (s : SegmentHeld)
-    (found : Found) → IsHeldAt ignore last files row s → Contains s.entries found
-    → IsGoodEntry s found
-entry_good ignore last files row s found (inl other) there =
-    absurd (nothing_there found (subst (λ (l : List Found). Contains l found) other.2 there))
-entry_good ignore last files row s found (inr this) there =
-    let h = this.4 in
-    let picked = picks_have (IsGoodIn s.bytes) (map found_of h.entries) s.entries found
-    h.counted.picked there in
-    record {
-      range = All-contains (IsRange (length s.bytes)) (map found_of h.entries) found
-          (ranges s.bytes row.0.0 (record { entries = map found_of h.entries; end = h.end })
-          (h.entries, h.segment, refl)) picked.1;
-      good = picked.0;
-    }
-
-entries_good : (ignore : Bool) (greatest : ℕ) (files : Option Files) (rows : List Row)
-    (helds : List SegmentHeld) → AreHeld ignore greatest files rows helds
-    → (s : SegmentHeld) (found : Found) → Contains helds s → Contains s.entries found
-    → IsGoodEntry s found
-entries_good ignore greatest files [] [] all s found there inside =
-    absurd (nothing_there s there)
-entries_good ignore greatest files [] (t ∷ helds) all s found there inside = absurd all
-entries_good ignore greatest files (row ∷ rows) [] all s found there inside = absurd all
-entries_good ignore greatest files (row ∷ rows) (t ∷ helds) all s found there inside =
-    elim (first_or_further t helds s there) [
-      | inl same ↦ entry_good ignore (row.0.0 == greatest) files row s found
-          (subst (λ (x : SegmentHeld). IsHeldAt ignore (row.0.0 == greatest) files row x) same
-          all.0) inside
-      | inr more ↦ entries_good ignore greatest files rows helds all.1 s found more inside
-    ]
-
--- all that was read, by the disk as it was
-pub is_held_of : (ignore : Bool) (files now later : Option Files)
-    (rows : List Row) (table_rows : List ((Table × ℕ) × List ℕ)) (folder : Folder) → now ≡ files
-    → later ≡ files
-    → IfSome files (λ held. AreRows segment_cmp IsSegmentAt (IsHeld held) rows)
-    → IfSome files (λ held. AreRows place_cmp IsNameOf (IsHeld held) table_rows)
-    → HaveHeld ignore later rows folder.segments → HaveRead now table_rows folder.tables
-    → IfSome files (λ held. AreNamed held IsNameOfTable folder.table_names)
-    → IfSome files (λ held. AreNamed held IsNameOfSegment folder.segment_names)
-    → IsHeldOf ignore files folder
-is_held_of ignore files now later rows table_rows folder same same' places table_places have
-    read tables segments =
-    let have_old : HaveHeld ignore files rows folder.segments =
-    subst (λ (f : Option Files). HaveHeld ignore f rows folder.segments) same' have in
-    record {
-      entries = λ s found there inside. entries_good ignore have_old.greatest files rows
-          folder.segments have_old.held s found there inside;
-      told = told_as ignore files rows folder.segments folder.tables table_rows places have_old
-          table_places
-          (subst (λ (f : Option Files). HaveRead f table_rows folder.tables) same read);
-      tables = tables;
-      segments = segments;
-      are_files = told_files ignore files rows folder.segments places have_old;
-    }

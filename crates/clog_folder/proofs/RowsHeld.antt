@@ -1,40 +1,14 @@
 -- What is held of all segments is the folder's log, and each segment before the next is read.
-use Rattle.std.proofs.Common.{
-  ◌≡◌,
-  ℕ,
-  ◌≤◌,
-  ◌==◌,
-  List,
-  [],
-  ◌∷◌,
-  ◌++◌,
-  length,
-  map,
-  Bool,
-  true,
-  false,
-  Some,
-  Contains,
-  refl,
-  sym,
-  ap,
-  subst,
-  ◌∙◌,
-  inl,
-  inr,
-  arith,
-}
+use Rattle.std.proofs.Common.{◌≡◌, ℕ, ◌≤◌, ◌==◌, List, [], ◌∷◌, ◌++◌, length, map, Bool, true}
+use Rattle.std.proofs.Common.{false, Some, Contains, refl, sym, ap, subst, ◌∙◌, inl, inr, arith}
 use Rattle.std.specs.FinMap as finmap
 use Rattle.std.specs.List.{AllByRecursion, flat_map}
 use Rattle.std.specs.List.Sorted.{IsStrictlySortedBy}
 use Rattle.std.specs.Map.{keys_of}
 use Rattle.std.proofs.lemmas.Bool.{true≢false}
 use Rattle.std.proofs.lemmas.Map.Keys.{sorted_tail}
-use Rattle.std.proofs.lemmas.List.Elements.{
-  Contains-append_cases,
-  Contains-append_left,
-  Contains-append_right,
-}
+use Rattle.std.proofs.lemmas.List.Elements.{Contains-append_cases, Contains-append_left}
+use Rattle.std.proofs.lemmas.List.Elements.{Contains-append_right}
 use Rattle.clog_spec.specs.Names.{IsSegmentName}
 use Rattle.clog_spec.specs.Sizes.{file_limit}
 use Rattle.clog_base.specs.declared.position.Position.{Position}
@@ -51,26 +25,13 @@ use Rattle.clog_scan.proofs.Order.{laid}
 use Rattle.clog_scan.proofs.Theorems.{one_segment}
 use Rattle.clog_crash.specs.Counts.{LoggedMutation, IsLoggedMutation}
 use Rattle.clog_crash.specs.Restore.{HoldsSegment, IsGoodSegment, IsLastId, IsLogged, MayEnd}
-use Rattle.clog_folder.specs.declared.segment.SegmentHeld.{SegmentHeld}
 use Rattle.clog_folder.specs.Entries.{EndsWell, payload_in}
 use Rattle.clog_folder.specs.Folder.{PlacedPayload, Say, payloads_of}
 use Rattle.clog_folder.specs.Listing.{IsSegmentAt, segment_cmp}
-use Rattle.clog_folder.specs.Segments.{
-  AreHeld,
-  HoldsEntries,
-  IsHeldAt,
-  IsRead,
-  IsTooLong,
-  Row,
-}
-use Rattle.clog_folder.proofs.PairOrder.{
-  AreOrdered,
-  IsLess,
-  StandsBefore,
-  less_pair,
-  nothing_ordered,
-  ordered_both,
-}
+use Rattle.clog_folder.specs.Segments.{AreHeld, HoldsEntries, IsHeldAt, IsRead, IsTooLong, Row}
+use Rattle.clog_folder.specs.Segments.{SegmentHeld}
+use Rattle.clog_folder.proofs.PairOrder.{AreOrdered, IsLess, StandsBefore, less_pair}
+use Rattle.clog_folder.proofs.PairOrder.{nothing_ordered, ordered_both}
 use Rattle.clog_folder.proofs.Rows.{is_above_first, segment_places}
 use Rattle.clog_folder.proofs.SegmentsHeld.{IsLogOf, all_mutations, at, log_of}
 

@@ -1,56 +1,19 @@
 -- What is held of a segment is what the segment holds.
-use Rattle.std.proofs.Common.{
-  ◌≡◌,
-  ℕ,
-  ◌<◌,
-  List,
-  [],
-  ◌∷◌,
-  map,
-  Bool,
-  false,
-  Contains,
-  Err as err,
-  refl,
-  sym,
-  ap,
-  subst,
-  ◌∙◌,
-  inl,
-  inr,
-  arith,
-}
+use Rattle.std.proofs.Common.{◌≡◌, ℕ, ◌<◌, List, [], ◌∷◌, map, Contains, refl, sym, ap, subst, ◌∙◌}
+use Rattle.std.proofs.Common.{inl, inr, arith}
 use Rattle.std.specs.List.{AllByRecursion}
-use Rattle.clog_base.specs.declared.fault.PayloadFault.{PayloadFault}
 use Rattle.clog_base.specs.declared.position.Position.{Position}
 use Rattle.clog_base.proofs.Members.{first_or_further, further, here, nothing_there}
 use Rattle.clog_mutation.proofs.Decoding.{one_mutation}
 use Rattle.clog_scan.specs.declared.answer.Found.{Found}
 use Rattle.clog_mutation.specs.declared.mutation.Mutation.{Mutation}
-use Rattle.clog_mutation.specs.Refusals.{IsRefused}
 use Rattle.clog_mutation.specs.Stored.{IsPayload}
-use Rattle.clog_entry.specs.declared.cause.Cause.{Cause}
-use Rattle.clog_entry.specs.declared.cause.Cause.TheVariants.{Payload}
-use Rattle.clog_entry.specs.Soft.{IsSoft}
-use Rattle.clog_scan.specs.declared.answer.Scan.{Scan}
-use Rattle.clog_scan.specs.Laws.{AreLaidOut, IsFile, place_of}
-use Rattle.clog_scan.specs.Segment.{Entry, Scans, found_of}
+use Rattle.clog_scan.specs.Laws.{AreLaidOut}
+use Rattle.clog_scan.specs.Segment.{Entry, found_of}
 use Rattle.clog_scan.proofs.Order.{laid}
-use Rattle.clog_crash.specs.Damage.{IsFirstRefused}
 use Rattle.clog_crash.specs.Restore.{AreMutations}
 use Rattle.clog_crash.specs.Counts.{LoggedMutation}
-use Rattle.clog_folder.specs.declared.fault.OpenFault.{OpenFault}
-use Rattle.clog_folder.specs.declared.fault.OpenFault.TheVariants.{Damaged, OutOfMemory}
-use Rattle.clog_folder.specs.Entries.{
-  AreCounted,
-  EndsWell,
-  GivesCounted,
-  IsFirstBadIn,
-  IsGoodIn,
-  JudgesEnd,
-  payload_in,
-}
-use Rattle.clog_folder.specs.Segments.{GivesEntries, HoldsEntries}
+use Rattle.clog_folder.specs.Entries.{IsGoodIn, payload_in}
 use Rattle.clog_folder.specs.Folder.{Say}
 use Rattle.clog_folder.specs.Listing.{Picks}
 use Rattle.clog_folder.proofs.PairOrder.{AreOrdered, StandsBefore, nothing_ordered, ordered_first}
@@ -63,20 +26,6 @@ at id offset = record { id = id; offset = offset }
 
 -- the payload in the range of an entry is the entry's
 module _ (bytes : List ℕ) (id : ℕ) where
-  pub first_refused : (from : ℕ) (entries : List Entry) (place at : ℕ) (fault : PayloadFault)
-      → AreLaidOut bytes id from entries place
-      → IsFirstBadIn bytes (map found_of entries) at fault → IsFirstRefused entries at fault
-  first_refused from [] place at fault laid bad = bad
-  first_refused from (e ∷ es) place at fault laid (inl this) =
-      inl (this.0, subst (λ (p : List ℕ). IsRefused p fault) laid.1.payload_is this.1)
-  first_refused from (e ∷ es) place at fault laid (inr further) = inr (
-    (
-      further.0.0,
-      subst (λ (p : List ℕ). IsPayload p further.0.0) laid.1.payload_is further.0.1,
-    ),
-    first_refused e.end es place at fault laid.2 further.1,
-  )
-
   pub all_mutations : (from : ℕ) (entries : List Entry) (place : ℕ)
       → AreLaidOut bytes id from entries place
       → AllByRecursion (IsGoodIn bytes) (map found_of entries) → AreMutations entries
@@ -226,71 +175,3 @@ module _ (bytes : List ℕ) (id : ℕ) where
       let less : from < e.end = omega (arith, laid.0, laid.1.range) in
       let rest = log_of e.end es kept place laid.2 bad.1 in
       (rest.0, left_out from e es kept rest.0 less laid.1.payload_is bad.0 rest.1)
-
--- ---- what the bytes of a segment give
-
-module _ (ignore last : Bool) (id : ℕ) (name bytes : List ℕ) (scan : Scan) (founds : List Found)
-    (file : IsFile bytes) (scans : Scans bytes id scan) (same : founds ≡ scan.entries) where
-  entries_are : founds ≡ map found_of scans.0
-  entries_are = same ∙ scans.2
-
-  lays : AreLaidOut bytes id 0 scans.0 (place_of scan.end)
-  lays = laid bytes id scans.0 scan.end scans.1
-
-  pub kept_entries : (kept : List Found) → AreCounted ignore bytes founds kept
-      → (ignore ≡ false → EndsWell last scan.end) → HoldsEntries ignore last id bytes kept
-  kept_entries kept counted ends = record {
-    file = file;
-    entries = scans.0;
-    end = scan.end;
-    segment = scans.1;
-    counted = subst (λ (l : List Found). AreCounted ignore bytes l kept) entries_are counted;
-    ends = ends;
-  }
-
-  not_soft : (fault : PayloadFault) (cause : Cause) → cause ≡ Payload fault → IsSoft cause → ⊥
-  not_soft fault cause is soft = subst IsSoft is soft
-
-  pub bad_payload : (refusal : OpenFault) → GivesCounted ignore name bytes founds (err refusal)
-      → GivesEntries ignore last id name bytes (err refusal)
-  bad_payload OutOfMemory bad = tt
-  bad_payload (Damaged other place cause) bad = (
-    bad.0,
-    bad.1.name_is,
-    record {
-      file = file;
-      entries = scans.0;
-      end = scan.end;
-      segment = scans.1;
-      tears = inl (
-        bad.1.fault,
-        first_refused bytes id 0 scans.0 (place_of scan.end) place bad.1.fault lays
-            (subst (λ (l : List Found). IsFirstBadIn bytes l place bad.1.fault) entries_are
-            bad.1.first),
-        bad.1.cause_is,
-      );
-      no_tail = λ soft. absurd (not_soft bad.1.fault cause bad.1.cause_is soft);
-    },
-  )
-  bad_payload other bad = absurd bad
-
-  pub bad_end : (refusal : OpenFault) (kept : List Found) → AreCounted ignore bytes founds kept
-      → JudgesEnd ignore last name scan.end {T = Unit} (err refusal)
-      → GivesEntries ignore last id name bytes (err refusal)
-  bad_end (Damaged other place cause) kept counted bad = (
-    bad.0,
-    bad.1,
-    record {
-      file = file;
-      entries = scans.0;
-      end = scan.end;
-      segment = scans.1;
-      tears = inr (
-        all_mutations bytes id 0 scans.0 (place_of scan.end) lays
-            (subst (AllByRecursion (IsGoodIn bytes)) entries_are (counted.all bad.0)),
-        bad.2,
-      );
-      no_tail = bad.3;
-    },
-  )
-  bad_end other kept counted bad = absurd bad

@@ -1,31 +1,6 @@
 -- Segments are read one after another, up to the first that is refused.
-use Rattle.std.proofs.Common.{
-  ◌≡◌,
-  ℕ,
-  ◌≤◌,
-  ◌==◌,
-  List,
-  [],
-  ◌∷◌,
-  ◌++◌,
-  All,
-  Bool,
-  true,
-  false,
-  Option,
-  Some,
-  None,
-  Contains,
-  refl,
-  sym,
-  ap,
-  subst,
-  ◌∙◌,
-  inl,
-  inr,
-  arith,
-}
-use Rattle.std.specs.Prelude.{IfSome}
+use Rattle.std.proofs.Common.{◌≡◌, ℕ, ◌≤◌, ◌==◌, List, ◌∷◌, ◌++◌, All, Bool, true, false, Some}
+use Rattle.std.proofs.Common.{Contains, refl, subst, inl, inr, arith}
 use Rattle.std.specs.BTreeMap.{is_at}
 use Rattle.std.specs.List.Sorted.{IsStrictlySortedBy}
 use Rattle.std.specs.Map.{keys_of, lookup}
@@ -33,7 +8,6 @@ use Rattle.std.specs.Ordering.{is_lt}
 use Rattle.std.proofs.lemmas.Bool.{eqb-true, eq-eqb}
 use Rattle.std.proofs.lemmas.List.Elements.{All-contains}
 use Rattle.clog_spec.specs.Names.{IsSegmentName}
-use Rattle.clog_base.specs.declared.fault.Quantity.TheVariants.{SegmentBytes}
 use Rattle.clog_base.proofs.Members.{in_map}
 use Rattle.clog_disk.specs.Files.{Files}
 use Rattle.clog_entry.specs.declared.cause.Cause.{Cause}
@@ -41,28 +15,9 @@ use Rattle.clog_entry.specs.Soft.{IsSoft}
 use Rattle.clog_crash.specs.Damage.{IsTornAt}
 use Rattle.clog_crash.specs.Folder.{IsHeld}
 use Rattle.clog_crash.specs.Restore.{IsLastId}
-use Rattle.clog_folder.specs.declared.fault.OpenFault.{OpenFault}
-use Rattle.clog_folder.specs.declared.fault.OpenFault.TheVariants.{
-  Disk,
-  Damaged,
-  Limit,
-  OutOfMemory,
-}
-use Rattle.clog_folder.specs.declared.segment.SegmentHeld.{SegmentHeld}
 use Rattle.clog_folder.specs.Listing.{AreRows, IsSegmentAt, SegmentPlace, segment_cmp}
-use Rattle.clog_folder.specs.Segments.{
-  AreHeld,
-  AreReadBefore,
-  IsDamagedAt,
-  IsDamagedFirst,
-  IsFirstLong,
-  IsGreatestId,
-  IsHeldAt,
-  IsTooLong,
-  PlaceRefused,
-  Row,
-  SegmentsRefused,
-}
+use Rattle.clog_folder.specs.Segments.{AreHeld, AreReadBefore, IsDamagedAt, IsDamagedFirst}
+use Rattle.clog_folder.specs.Segments.{IsFirstLong, IsGreatestId, IsTooLong, Row, SegmentHeld}
 use Rattle.clog_folder.proofs.PairOrder.{not_less, pair_less}
 use Rattle.clog_folder.proofs.Rows.{row_of, row_there, segment_places, stands_before}
 use Rattle.clog_folder.proofs.RowsHeld.{find_held, not_long, row_is_read}
@@ -82,24 +37,6 @@ greatest_of rows last name all found = record {
     refl,
   );
 }
-
--- ---- one more
-
-pub held_before : (ignore last : Bool) (files now : Option Files) (row : Row) (s : SegmentHeld)
-    → now ≡ files → IsHeldAt ignore last now row s → IsHeldAt ignore last files row s
-held_before ignore last files now row s same is =
-    subst (λ (f : Option Files). IsHeldAt ignore last f row s) same is
-
-pub held_more : (ignore : Bool) (greatest : ℕ) (files : Option Files) (rows : List Row)
-    (helds : List SegmentHeld) (row : Row) (s : SegmentHeld)
-    → AreHeld ignore greatest files rows helds
-    → IsHeldAt ignore (row.0.0 == greatest) files row s
-    → AreHeld ignore greatest files (rows ++ row ∷ []) (helds ++ s ∷ [])
-held_more ignore greatest files [] [] row s all is = (is, tt)
-held_more ignore greatest files [] (t ∷ helds) row s all is = absurd all
-held_more ignore greatest files (r ∷ rows) [] row s all is = absurd all
-held_more ignore greatest files (r ∷ rows) (t ∷ helds) row s all is =
-    (all.0, held_more ignore greatest files rows helds row s all.1 is)
 
 -- ---- the first that is refused
 
@@ -203,43 +140,3 @@ module _ (held : Files) (ignore : Bool) (greatest : ℕ) (rows : List Row)
           short = short_here place cause torn;
           before = before;
         }
-
--- why the next place is not read, by the disk as it was
-pub place_refused : (ignore : Bool) (greatest : ℕ) (files now : Option Files) (f g k : ℕ)
-    (rows front left rest : List Row) (row : Row) (helds : List SegmentHeld) (refusal : OpenFault)
-    → IfSome files (λ held. AreRows segment_cmp IsSegmentAt (IsHeld held) rows)
-    → IsGreatestId rows greatest → now ≡ files → rows ≡ front ++ left → left ≡ row ∷ rest
-    → AreHeld ignore greatest files front helds → f ≤ g
-    → PlaceRefused ignore (row.0.0 == greatest) now g k row refusal
-    → SegmentsRefused ignore files f k refusal
-place_refused ignore greatest files now f g k rows front left rest row helds Disk places top same
-    parts taken read later refused =
-    omega (arith, later, refused)
-place_refused ignore greatest files now f g k rows front left rest row helds OutOfMemory places top
-    same parts taken read later refused =
-    tt
-place_refused ignore greatest None now f g k rows front left rest row helds (Limit SegmentBytes n)
-    places top same parts taken read later refused =
-    (refused.0, tt)
-place_refused ignore greatest (Some held) now f g k rows front left rest row helds
-    (Limit SegmentBytes n) places top same parts taken read later refused = (
-      refused.0,
-      long_first held ignore greatest rows places top front rest row helds
-          (parts ∙ ap (λ (l : List Row). front ++ l) taken) read refused.1
-          (subst (λ (o : Option Files). IfSome o (λ h. IsTooLong h row.1)) same refused.2),
-    )
-place_refused ignore greatest None now f g k rows front left rest row helds
-    (Damaged other place cause) places top same parts taken read later refused =
-    (refused.0, tt)
-place_refused ignore greatest (Some held) now f g k rows front left rest row helds
-    (Damaged other place cause) places top same parts taken read later refused = (
-      refused.0,
-      subst (λ (n : List ℕ). IsDamagedFirst held n place cause) (sym refused.1)
-          (damaged_first held ignore greatest rows places top front rest row helds
-          (parts ∙ ap (λ (l : List Row). front ++ l) taken) read place cause refused.0
-          (subst (λ (o : Option Files). IsDamagedAt o (row.0.0 == greatest) row place cause) same
-          refused.2)),
-    )
-place_refused ignore greatest files now f g k rows front left rest row helds other places top same
-    parts taken read later refused =
-    absurd refused

@@ -1,21 +1,5 @@
 -- What a folder holds, read whole, and why it is refused.
-use Rattle.std.specs.Prelude.{
-  ◌≡◌,
-  ℕ,
-  List,
-  [],
-  ◌∷◌,
-  length,
-  map,
-  Contains,
-  Bool,
-  false,
-  Option,
-  IfSome,
-  ⊤,
-  Result,
-}
-use Rattle.std.specs.declared.result.Result.TheVariants as result
+use Rattle.std.specs.Prelude.{◌≡◌, ℕ, List, [], ◌∷◌, length, map, Bool, false, Option, IfSome, ⊤}
 use Rattle.std.specs.List.{flat_map}
 use Rattle.clog_spec.specs.Names.{IsSegmentName}
 use Rattle.clog_spec.specs.Sizes.{file_limit}
@@ -26,30 +10,14 @@ use Rattle.clog_disk.specs.Files.{Files}
 use Rattle.clog_entry.specs.declared.cause.Cause.{Cause}
 use Rattle.clog_mutation.specs.Stored.{IsPayload}
 use Rattle.clog_scan.specs.declared.answer.Found.{Found}
-use Rattle.clog_scan.specs.Laws.{IsRange}
-use Rattle.clog_crash.specs.Counts.{AreNames, IsLog, IsNameOfTable, LoggedMutation}
-use Rattle.clog_crash.specs.Damage.{AreSegmentFiles}
-use Rattle.clog_crash.specs.Folder.{
-  TableRead,
-  AreTables,
-  AreGoodTables,
-  IsFirstBad,
-  IsNameOfSegment,
-}
+use Rattle.clog_crash.specs.Counts.{AreNames, IsLog, LoggedMutation}
+use Rattle.clog_crash.specs.Folder.{TableRead, AreTables, AreGoodTables, IsFirstBad}
 use Rattle.clog_crash.specs.Restore.{IsUndamaged}
 use Rattle.clog_folder.specs.declared.fault.OpenFault.{OpenFault}
-use Rattle.clog_folder.specs.declared.fault.OpenFault.TheVariants.{
-  Disk,
-  Damaged,
-  BadTable,
-  Limit,
-  OutOfMemory,
-}
-use Rattle.clog_folder.specs.declared.folder.Folder.{Folder}
-use Rattle.clog_folder.specs.declared.segment.SegmentHeld.{SegmentHeld}
-use Rattle.clog_folder.specs.Entries.{IsGoodIn, payload_in}
-use Rattle.clog_folder.specs.Segments.{IsDamagedFirst, IsFirstLong, IsTooLong}
-use Rattle.clog_folder.specs.Tables.{read_of}
+use Rattle.clog_folder.specs.declared.fault.OpenFault.TheVariants.{Disk, Damaged, BadTable, Limit}
+use Rattle.clog_folder.specs.declared.fault.OpenFault.TheVariants.{OutOfMemory}
+use Rattle.clog_folder.specs.Entries.{payload_in}
+use Rattle.clog_folder.specs.Segments.{IsDamagedFirst, IsFirstLong, IsTooLong, SegmentHeld}
 
 -- ---- what is held
 
@@ -94,22 +62,6 @@ pub record AreNamed (files : Files) (P : List ℕ → Type 0) (n : ℕ) : Type 0
   pub are : AreNames files P names
   pub count : n ≡ length names
 
--- an entry that counts lies in its segment's bytes, and its payload is a mutation's
-pub record IsGoodEntry (held : SegmentHeld) (found : Found) : Type 0 where
-  pub range : IsRange (length held.bytes) found
-  pub good : IsGoodIn held.bytes found
-
--- What is held of a folder: entries of segments that count, and where the files are told, all of
--- the folder.
-pub record IsHeldOf (ignore : Bool) (files : Option Files) (folder : Folder) : Type 0 where
-  pub entries : (held : SegmentHeld) (found : Found) → Contains folder.segments held
-      → Contains held.entries found → IsGoodEntry held found
-  pub told : IfSome files (λ held.
-      IsReadAs ignore held (map read_of folder.tables) folder.segments)
-  pub tables : IfSome files (λ held. AreNamed held IsNameOfTable folder.table_names)
-  pub segments : IfSome files (λ held. AreNamed held IsNameOfSegment folder.segment_names)
-  pub are_files : IfSome files AreSegmentFiles
-
 -- ---- why it is refused
 
 -- All table files are good, and the first segment that is refused is too long.
@@ -133,9 +85,3 @@ FolderRefused ignore files faults now (Damaged name at cause) =
 FolderRefused ignore files faults now (Limit SegmentBytes most) =
     (most ≡ file_limit) × IfSome files (λ held. HasLongSegment ignore held)
 FolderRefused ignore files faults now other = ⊥
-
--- what a folder holds, or why it is not read
-abbrev pub ReadsFolder : Bool → Option Files → ℕ → ℕ → Result Folder OpenFault → Type 0
-ReadsFolder ignore files faults now (result.Ok folder) = IsHeldOf ignore files folder
-ReadsFolder ignore files faults now (result.Err refusal) =
-    FolderRefused ignore files faults now refusal

@@ -1,28 +1,6 @@
--- What the steps of reading segments answer.
-use Rattle.std.specs.Prelude.{
-  ◌≡◌,
-  ◌≢◌,
-  ◌⊎◌,
-  ℕ,
-  ◌<◌,
-  ◌≤◌,
-  ◌==◌,
-  List,
-  [],
-  ◌∷◌,
-  length,
-  map,
-  Bool,
-  true,
-  false,
-  Option,
-  Some,
-  IfSome,
-  Contains,
-  ⊤,
-  Result,
-  Vec,
-}
+-- What is held of segments that are read whole, and why a folder is refused for one.
+use Rattle.std.specs.Prelude.{◌≡◌, ◌≢◌, ◌⊎◌, ℕ, ◌<◌, ◌≤◌, ◌==◌, List, [], ◌∷◌, length, map, Bool}
+use Rattle.std.specs.Prelude.{true, false, Option, Some, IfSome, Contains, ⊤, Result, Vec}
 use Rattle.std.specs.declared.alloc.Global.{Global}
 use Rattle.std.specs.declared.result.Result.TheVariants as result
 use Rattle.std.specs.FinMap as finmap
@@ -42,18 +20,20 @@ use Rattle.clog_crash.specs.Damage.{ComesBefore, IsFirstDamage, TearsAt}
 use Rattle.clog_crash.specs.Folder.{IsHeld}
 use Rattle.clog_crash.specs.Restore.{IsGoodSegment}
 use Rattle.clog_folder.specs.declared.fault.OpenFault.{OpenFault}
-use Rattle.clog_folder.specs.declared.fault.OpenFault.TheVariants.{
-  Disk,
-  Damaged,
-  Limit,
-  OutOfMemory,
-}
-use Rattle.clog_folder.specs.declared.segment.SegmentHeld.{SegmentHeld}
+use Rattle.clog_folder.specs.declared.fault.OpenFault.TheVariants.{Disk, Damaged, Limit}
+use Rattle.clog_folder.specs.declared.fault.OpenFault.TheVariants.{OutOfMemory}
 use Rattle.clog_folder.specs.Entries.{AreCounted, EndsWell}
 use Rattle.clog_folder.specs.Listing.{SegmentPlace}
 use Rattle.clog_folder.specs.Whole.{IsWhole}
 
 -- ---- one segment
+
+-- A segment, read whole: the id in its name, all its bytes, none where it is of another version,
+-- and the entries that count, in their order.
+pub record SegmentHeld : Type 0 where
+  pub id : ℕ
+  pub bytes : List ℕ
+  pub entries : List Found
 
 -- What is held of the bytes of a segment of version 6: its entries that count. Where damage is not
 -- passed over, it ends as it may.
@@ -81,14 +61,6 @@ pub record IsTooLong (files : Files) (name : List ℕ) : Type 0 where
   pub bytes : List ℕ
   pub there : finmap.get files name ≡ Some bytes
   pub long : file_limit < length bytes
-
--- the entries that count of bytes that are not too long, or why the folder is refused for them
-abbrev pub GivesEntries : Bool → Bool → ℕ → List ℕ → List ℕ → Result (List Found) OpenFault → Type 0
-GivesEntries ignore last id name bytes (result.Ok kept) = HoldsEntries ignore last id bytes kept
-GivesEntries ignore last id name bytes (result.Err OutOfMemory) = ⊤
-GivesEntries ignore last id name bytes (result.Err (Damaged other at cause)) =
-    (ignore ≡ false) × (other ≡ name) × IsTornHere last id bytes at cause
-GivesEntries ignore last id name bytes (result.Err other) = ⊥
 
 abbrev pub BytesRefused : Option Files → ℕ → ℕ → List ℕ → OpenFault → Type 0
 BytesRefused files faults now name Disk = Rose faults now
@@ -130,29 +102,6 @@ abbrev pub IsDamagedAt : Option Files → Bool → Row → ℕ → Cause → Typ
 IsDamagedAt files last row at cause =
     ((row.0.1 ≢ 6) × (at ≡ 0) × (cause ≡ Version row.0.1))
     ⊎ ((row.0.1 ≡ 6) × IsTornFile files last row.0.0 row.1 at cause)
-
--- a segment of another version is passed over, or is damage
-abbrev pub GivesOther : Bool → SegmentPlace → List ℕ → Result SegmentHeld OpenFault → Type 0
-GivesOther ignore place name (result.Ok held) = (ignore ≡ true) × (held.entries ≡ [])
-GivesOther ignore place name (result.Err (Damaged other at cause)) =
-    (ignore ≡ false) × (other ≡ name) × (at ≡ 0) × (cause ≡ Version place.1)
-GivesOther ignore place name (result.Err other) = ⊥
-
-abbrev pub PlaceRefused : Bool → Bool → Option Files → ℕ → ℕ → Row → OpenFault → Type 0
-PlaceRefused ignore last files faults now row Disk = Rose faults now
-PlaceRefused ignore last files faults now row OutOfMemory = ⊤
-PlaceRefused ignore last files faults now row (Limit SegmentBytes most) =
-    (most ≡ file_limit) × (row.0.1 ≡ 6) × IfSome files (λ held. IsTooLong held row.1)
-PlaceRefused ignore last files faults now row (Damaged other at cause) =
-    (ignore ≡ false) × (other ≡ row.1) × IsDamagedAt files last row at cause
-PlaceRefused ignore last files faults now row other = ⊥
-
-abbrev pub ReadsPlace : Bool → Bool → Option Files → ℕ → ℕ → Row → Result SegmentHeld OpenFault
-    → Type 0
-ReadsPlace ignore last files faults now row (result.Ok held) =
-    IsHeldAt ignore last files row held
-ReadsPlace ignore last files faults now row (result.Err refusal) =
-    PlaceRefused ignore last files faults now row refusal
 
 -- ---- all segments
 
@@ -211,10 +160,3 @@ pub record HaveHeld (ignore : Bool) (files : Option Files) (rows : List Row)
   pub greatest : ℕ
   pub top : IsGreatestId rows greatest
   pub held : AreHeld ignore greatest files rows helds
-
-abbrev pub ReadsSegments : Bool → Option Files → ℕ → ℕ → List Row
-    → Result (Vec SegmentHeld Global) OpenFault → Type 0
-ReadsSegments ignore files faults now rows (result.Ok helds) =
-    HaveHeld ignore files rows helds.items
-ReadsSegments ignore files faults now rows (result.Err refusal) =
-    SegmentsRefused ignore files faults now refusal

@@ -3,6 +3,7 @@ ghost use Rattle.std.specs.Prelude.{◌↔◌, IsTrue, IfOk, Contains};
 ghost use Rattle.clog_crash.specs.Counts.{IsNameOfTable};
 ghost use Rattle.clog_crash.specs.Folder.{IsNameOf, IsNameOfSegment, place_cmp};
 ghost use Rattle.clog_folder.specs.Listing.{AreRows, IsCount, IsSegmentAt, segment_cmp};
+ghost use Rattle.clog_folder.specs.Segments.{IsGreatestId};
 
 use clog_base::{Name, OutOfMemory, Table, parse_segment_name, parse_table_name};
 use std::alloc::Global;
@@ -78,4 +79,14 @@ pub fn segment_names(alloc: Global, names: &[Name]) -> Result<SegmentNames, OutO
         }
     }
     Ok(segments)
+}
+
+/// The greatest id of a segment; 0 where there is none.
+pub fn greatest_id(names: &SegmentNames) -> u64
+    ensures { IsGreatestId names.now.entries result }
+{
+    match names.last_key_value() {
+        Some((place, _)) => place.0,
+        None => 0,
+    }
 }

@@ -58,6 +58,7 @@ use Rattle.clog_crash.proofs.rest.Standing.{reads_same}
 use Rattle.clog_folder.specs.declared.fault.OpenFault.{OpenFault}
 use Rattle.clog_folder.specs.declared.fault.OpenFault.TheVariants.{Disk, OutOfMemory}
 use Rattle.clog_folder.proofs.Listed.{listed_of}
+use Rattle.replay_merge.specs.Logged.{start}
 use Rattle.clog_segments.specs.Beside.{StayButOne}
 use Rattle.clog_segments.specs.Coming.{IsRecovering, MayComeHere, MayComeTo}
 use Rattle.clog_segments.specs.Filing.{
@@ -71,7 +72,6 @@ use Rattle.clog_segments.specs.Filing.{
   SettledTo,
   StepCause,
 }
-use Rattle.clog_segments.specs.Live.{start}
 use Rattle.clog_segments.specs.Named.{HasSequence, OneHas}
 use Rattle.clog_segments.proofs.Live.{part_is_live, row_has}
 

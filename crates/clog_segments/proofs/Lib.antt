@@ -38,6 +38,7 @@ mod OtherFiles
 pub mod Outcomes
 mod PutBeside
 mod PutTables
+mod ReadLog
 mod Ready
 mod Recovered
 mod Recovery

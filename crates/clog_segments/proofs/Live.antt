@@ -1,33 +1,7 @@
--- What the log restores: its cells are those of the folder, they can be written, and the greatest
--- position of its entries is that of the log.
-use Rattle.std.proofs.Common.{
-  ◌≡◌,
-  ℕ,
-  List,
-  [],
-  ◌∷◌,
-  ◌++◌,
-  map,
-  false,
-  Contains,
-  refl,
-  sym,
-  ap,
-  subst,
-  ◌∙◌,
-  inl,
-  inr,
-  arith,
-  eq-eqb,
-  eqb-true,
-}
+-- What the log restores: its cells are those of the folder, and they can be written.
+use Rattle.std.proofs.Common.{◌≡◌, ℕ, List, [], ◌∷◌, map, Contains, sym, ap, subst, inl, inr}
+use Rattle.std.proofs.Common.{eq-eqb, eqb-true}
 use Rattle.std.specs.List.{AllByRecursion, flat_map}
-use Rattle.std.proofs.lemmas.Bool.{cases_lt}
-use Rattle.std.proofs.lemmas.List.Elements.{
-  Contains-append_left,
-  Contains-push,
-  Contains-push_cases,
-}
 use Rattle.std.proofs.lemmas.Map.Keys.{IsDistinct-from_sorted}
 use Rattle.std.proofs.lemmas.Map.Views.{lookup-from_Contains}
 use Rattle.clog_base.specs.declared.cell.Cell.{Cell}
@@ -35,18 +9,8 @@ use Rattle.clog_base.specs.declared.cell.CellKey.{CellKey}
 use Rattle.clog_base.specs.declared.cell.Kind.{Kind}
 use Rattle.clog_base.specs.declared.cell.Kind.TheVariants.{Deletion, Live}
 use Rattle.clog_base.specs.declared.cell.Table.{Table}
-use Rattle.clog_base.specs.declared.position.Position.{Position}
-use Rattle.clog_base.specs.Positions.{IsUpTo}
-use Rattle.clog_base.proofs.Members.{
-  all_have,
-  first_or_further,
-  from_flat,
-  from_map,
-  further,
-  here,
-  nothing_there,
-}
-use Rattle.clog_base.proofs.PositionOrder.{up_to_trans}
+use Rattle.clog_base.proofs.Members.{all_have, first_or_further, from_flat, from_map, further, here}
+use Rattle.clog_base.proofs.Members.{nothing_there}
 use Rattle.clog_cells.specs.Merge.{IsMergeOf, IsNewestAmong, key_cmp, part_on}
 use Rattle.clog_cells.proofs.Merging.{of_same}
 use Rattle.clog_cells.proofs.Orders.{key_equiv}
@@ -59,14 +23,13 @@ use Rattle.clog_crash.specs.Counts.{IsLog, LoggedMutation}
 use Rattle.clog_crash.specs.Readings.{IsLoggedCellIn}
 use Rattle.clog_crash.specs.Restore.{IsLoggedCell}
 use Rattle.clog_crash.proofs.changes.BothWays.{cell, cell_in}
-use Rattle.clog_folder.specs.declared.segment.SegmentHeld.{SegmentHeld}
 use Rattle.clog_folder.specs.declared.tables.TableHeld.{TableHeld}
-use Rattle.clog_folder.specs.Folder.{IsReadAs, PlacedPayload, Say, payloads_of}
-use Rattle.clog_folder.specs.Tables.{read_of}
+use Rattle.clog_folder.specs.Folder.{PlacedPayload, Say}
 use Rattle.clog_folder.proofs.EntriesCounted.{picks_have}
+use Rattle.replay_merge.specs.Logged.{AreLive}
 use Rattle.replay_merge.specs.Merged.{IsSkippedBy, KeyedUpdate, keyed, pair_at, updates_of}
 use Rattle.replay_merge.proofs.Replayed.{kept_cell, logged_cell, one_log}
-use Rattle.clog_segments.specs.Live.{AreLive, IsLaterOf, IsTop, start}
+use Rattle.clog_segments.specs.Live.{HasLog}
 
 abbrev Pairs : Type 0
 Pairs = List (CellKey × Cell)
@@ -117,8 +80,8 @@ sized_pair l u stored there =
       value = sized_value from.0.cell.kind from.0.cell.value update.value;
     })
 
-module _ (tables : List TableHeld) (segments : List SegmentHeld) (cells : Pairs)
-    (live : AreLive tables segments cells) where
+module _ (tables : List TableHeld) (ps : List PlacedPayload) (cells : Pairs)
+    (live : AreLive tables ps cells) where
   -- what was merged
   merged_pairs : IsMergeOf (Contains (map pair_at live.taken.kept)) cells
   merged_pairs =
@@ -133,24 +96,25 @@ module _ (tables : List TableHeld) (segments : List SegmentHeld) (cells : Pairs)
       let has = picks_have (λ v. ¬ IsSkippedBy tables v) all live.taken.kept u.0
       live.taken.picks_kept u.1 in
       let l = from_flat updates_of live.log u.0 has.1 in
-      let is = said (flat_map payloads_of segments) live.log l.0 live.say l.1 in
+      let is = said ps live.log l.0 live.say l.1 in
       subst IsSized u.2 (sized_pair l.0 u.0 is.3.stored l.2)
 
   -- ---- they are those of the folder
 
-  module _ (files : Files) (read : IsReadAs false files (map read_of tables) segments) where
+  module _ (files : Files) (has : HasLog tables ps files) where
     pub is_log : IsLog files live.log
     is_log =
         subst (IsLog files)
-        (sym (one_log (flat_map payloads_of segments) live.log read.log live.say read.say))
-        read.is_log
+        (sym (one_log ps live.log has.read.log live.say
+        (subst (λ (qs : List PlacedPayload). Say qs has.read.log) has.payloads has.read.say)))
+        has.read.is_log
 
     forth : (pair : CellKey × Cell) → Contains (map pair_at live.taken.kept) pair
         → IsLoggedCellIn (bytes_at files) pair
     forth pair there =
         let u = from_map pair_at live.taken.kept pair there in
         cell_in files pair (subst (IsLoggedCell files) u.2
-        (logged_cell files tables read.are_tables live.log is_log live.merged live.taken u.0
+        (logged_cell files tables has.read.are_tables live.log is_log live.merged live.taken u.0
         u.1))
 
     pub live_merge : IsMergeOf (IsLoggedCellIn (bytes_at files)) cells
@@ -158,8 +122,8 @@ module _ (tables : List TableHeld) (segments : List SegmentHeld) (cells : Pairs)
         of_same (Contains (map pair_at live.taken.kept)) (IsLoggedCellIn (bytes_at files)) cells
         (λ pair. (
           forth pair,
-          λ c. kept_cell files tables read.are_tables live.log is_log live.merged live.taken pair
-              (cell files pair c),
+          λ c. kept_cell files tables has.read.are_tables live.log is_log live.merged live.taken
+              pair (cell files pair c),
         )) merged_pairs
 
 -- ---- those of one table
@@ -198,37 +162,3 @@ within_limits table cells are =
       all rows (λ pair there. has pair
           (further row rows pair there)),
     )
-
--- ---- the greatest position
-
-pub from_start : (top : Position) → IsUpTo start top
-from_start top = elim (cases_lt 0 top.id) [
-  | inl some ↦ inl (omega (arith, some))
-  | inr none ↦ inr (omega (arith, none), omega arith)
-]
-
-pub top_of_none : IsTop [] start
-top_of_none = record {
-  behind = λ p there. absurd (nothing_there p there);
-  one = inl refl;
-}
-
-pub top_more : (ps : List PlacedPayload) (p : PlacedPayload) (top later : Position)
-    → IsTop ps top → IsLaterOf top p.0 later → IsTop (ps ++ p ∷ []) later
-top_more ps p top later so_far is = record {
-  behind = λ q there. elim (Contains-push_cases ps p q there) [
-    | inl old ↦ up_to_trans q.0 top later (so_far.behind q old) is.first
-    | inr same ↦ subst (λ (x : PlacedPayload). IsUpTo x.0 later) same is.second
-  ];
-  one = elim is.one [
-    | inl as_before ↦ elim so_far.one [
-      | inl begins ↦ inl (as_before ∙ begins)
-      | inr has ↦ inr (
-        has.0,
-        Contains-append_left ps (p ∷ []) has.0 has.1,
-        has.2 ∙ sym as_before,
-      )
-    ]
-    | inr new ↦ inr (p, Contains-push ps p, sym new)
-  ];
-}

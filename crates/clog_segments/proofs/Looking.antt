@@ -17,6 +17,7 @@ use Rattle.std.proofs.Common.{
   ◌∙◌,
   inl,
   inr,
+  arith,
 }
 use Rattle.std.specs.Prelude.{Bool, true, false, IsTrue, ◌↔◌, Result}
 use Rattle.std.proofs.lemmas.Bool.{true≢false}
@@ -29,7 +30,7 @@ use Rattle.clog_base.proofs.Members.{from_map, in_map}
 use Rattle.clog_disk.specs.Files.{Files, Lists, bytes_at}
 use Rattle.clog_table.specs.declared.table_file.TableFile.{TableFile}
 use Rattle.clog_table.specs.Refusals.{IsFileOf}
-use Rattle.clog_crash.specs.Folder.{AreTables, HoldsName, IsBase, IsReadFrom, TableRead}
+use Rattle.clog_crash.specs.Folder.{AreTables, HoldsName, IsBase, IsFirstBad, IsReadFrom, TableRead}
 use Rattle.clog_crash.specs.Readings.{IsTableIn}
 use Rattle.clog_crash.specs.Recovery.{NamesAny}
 use Rattle.clog_crash.proofs.TableFiles.{known_read}
@@ -42,11 +43,11 @@ use Rattle.clog_folder.specs.declared.fault.OpenFault.TheVariants.{
   Limit,
   OutOfMemory,
 }
-use Rattle.clog_folder.specs.declared.folder.Folder.{Folder}
 use Rattle.clog_folder.specs.declared.tables.TableHeld.{TableHeld}
-use Rattle.clog_folder.specs.Folder.{FolderRefused, IsHeldOf}
+use Rattle.clog_folder.specs.Folder.{FolderRefused, HasDamage, HasLongSegment, PlacedPayload}
 use Rattle.clog_folder.specs.Tables.{read_of}
 use Rattle.clog_folder.proofs.Listed.{held_of, listed_of}
+use Rattle.clog_segments.specs.Live.{HasLog}
 use Rattle.clog_segments.specs.Named.{GivesBase, IsIdBase, IsLateTable, NamesOne, id_limit}
 use Rattle.clog_segments.specs.Opened.{
   HasGreatId,
@@ -146,56 +147,62 @@ none_late files names lists few late =
 
 -- ---- what is known
 
-pub within : (files : Files) (folder : Folder) (names : List (List ℕ)) (now base : ℕ)
-    → IsHeldOf false (Some files) folder → names ≡ finmap.keys files
-    → (Any IsLateTable names → ⊥) → IsIdBase (NamesOne names folder.tables) now base
-    → CanBeOpened files
-within files folder names now base held lists few is = record {
-  readable = held.told.readable;
+pub within : (files : Files) {tables : List TableHeld} {ps : List PlacedPayload}
+    → HasLog tables ps files → (names : List (List ℕ)) (now base : ℕ)
+    → names ≡ finmap.keys files → (Any IsLateTable names → ⊥)
+    → IsIdBase (NamesOne names tables) now base → CanBeOpened files
+within files {tables} has names now base lists few is = record {
+  readable = has.read.readable;
   few = none_late files names lists few;
-  low = low_ids files names lists folder.tables held.told.are_tables now base is;
+  low = low_ids files names lists tables has.read.are_tables now base is;
 }
 
 -- ---- why it is refused
 
-pub from_folder : (files : Option Files) (faults now : ℕ) (refusal : OpenFault)
-    → FolderRefused false files faults now refusal → OpenRefused files faults now refusal
-from_folder files faults now Disk refused = refused
-from_folder files faults now OutOfMemory refused = tt
-from_folder files faults now (BadTable name fault) refused = refused
-from_folder files faults now (Damaged name at cause) refused = refused.1
-from_folder files faults now (Limit SegmentBytes most) refused = refused
-from_folder files faults now (Limit other most) refused = absurd refused
-
-pub many_tables : (files : Option Files) (folder : Folder) (names : List (List ℕ))
-    → IsHeldOf false files folder → Lists files names → Any IsLateTable names
-    → IfSome files HasManyTables
-many_tables None folder names held lists late = tt
-many_tables (Some files) folder names held lists late = record {
-  readable = held.told.readable;
-  late = late_held files names lists late;
-}
-
-pub great_ids : (files : Option Files) (folder : Folder) (names : List (List ℕ)) (id : ℕ)
-    → IsHeldOf false files folder → Lists files names → (Any IsLateTable names → ⊥)
-    → NamesOne names folder.tables id → id_limit ≤ id → IfSome files HasGreatId
-great_ids None folder names id held lists few named high = tt
-great_ids (Some files) folder names id held lists few named high = record {
-  readable = held.told.readable;
-  few = none_late files names lists few;
-  id = id;
-  named = great_id files names lists folder.tables held.told.are_tables id named;
-  great = high;
-}
-
-pub limit_refused : (files : Option Files) (folder : Folder) (names : List (List ℕ))
-    (faults now : ℕ) (refusal : OpenFault) → IsHeldOf false files folder → Lists files names
-    → (Any IsLateTable names → ⊥)
-    → (refusal ≡ Limit Ids id_limit) × ((n : ℕ) × NamesOne names folder.tables n × (id_limit ≤ n))
+-- by the disk as it was before its names were listed
+pub from_folder : (files mid : Option Files) (faults later now : ℕ) (refusal : OpenFault)
+    → mid ≡ files → faults ≤ later → FolderRefused false mid later now refusal
     → OpenRefused files faults now refusal
-limit_refused files folder names faults now refusal held lists few h =
-    subst (OpenRefused files faults now) (sym h.0)
-    (refl, great_ids files folder names h.1.0 held lists few h.1.1 h.1.2)
+from_folder files mid faults later now Disk same on refused = omega (arith, on, refused)
+from_folder files mid faults later now OutOfMemory same on refused = tt
+from_folder files mid faults later now (BadTable name fault) same on refused =
+    subst (λ (o : Option Files). IfSome o (λ held. IsFirstBad held name fault)) same refused
+from_folder files mid faults later now (Damaged name at cause) same on refused =
+    subst (λ (o : Option Files). IfSome o (λ held. HasDamage held name at cause)) same refused.1
+from_folder files mid faults later now (Limit SegmentBytes most) same on refused =
+    (refused.0, subst (λ (o : Option Files). IfSome o (HasLongSegment false)) same refused.1)
+from_folder files mid faults later now (Limit other most) same on refused = absurd refused
+
+module _ (tables : List TableHeld) (ps : List PlacedPayload) where
+  pub many_tables : (files : Option Files) (names : List (List ℕ))
+      → IfSome files (HasLog tables ps) → Lists files names → Any IsLateTable names
+      → IfSome files HasManyTables
+  many_tables None names has lists late = tt
+  many_tables (Some files) names has lists late = record {
+    readable = has.read.readable;
+    late = late_held files names lists late;
+  }
+
+  great_ids : (files : Option Files) (names : List (List ℕ)) (id : ℕ)
+      → IfSome files (HasLog tables ps) → Lists files names → (Any IsLateTable names → ⊥)
+      → NamesOne names tables id → id_limit ≤ id → IfSome files HasGreatId
+  great_ids None names id has lists few named high = tt
+  great_ids (Some files) names id has lists few named high = record {
+    readable = has.read.readable;
+    few = none_late files names lists few;
+    id = id;
+    named = great_id files names lists tables has.read.are_tables id named;
+    great = high;
+  }
+
+  pub limit_refused : (files : Option Files) (names : List (List ℕ)) (faults now : ℕ)
+      (refusal : OpenFault) → IfSome files (HasLog tables ps) → Lists files names
+      → (Any IsLateTable names → ⊥)
+      → (refusal ≡ Limit Ids id_limit) × ((n : ℕ) × NamesOne names tables n × (id_limit ≤ n))
+      → OpenRefused files faults now refusal
+  limit_refused files names faults now refusal has lists few h =
+      subst (OpenRefused files faults now) (sym h.0)
+      (refl, great_ids files names h.1.0 has lists few h.1.1 h.1.2)
 
 -- ---- by the slices that were handed on
 

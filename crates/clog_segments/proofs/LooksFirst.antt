@@ -21,15 +21,16 @@ module _ {D : Type 0} {files : D → Option Files} {changes : D → Option (List
     {since : D → ℕ → Files → Type 0} {read_at : D → ℕ → Option Reading}
     {lasted_at : D → ℕ → Type 0} {faults : D → ℕ} {old mid : D}
     (looked : IsUntouched files changes leaves moment since read_at lasted_at faults old mid) where
-  -- its names are listed too
-  pub then_listed : {new : D} → Unchanged (files mid) (files new) (leaves mid) (leaves new)
-      → changes new ≡ changes mid → Elapses moment since leaves read_at lasted_at mid new
-      → faults mid ≤ faults new
-      → IsUntouched files changes leaves moment since read_at lasted_at faults old new
-  then_listed {new} same quiet time later =
-      passing.both files changes leaves moment since read_at lasted_at faults old mid new looked
-      (passing.one_call files changes leaves moment since read_at lasted_at faults mid new same
+  -- its names were listed before
+  pub listed_first : {before : D}
+      → Unchanged (files before) (files old) (leaves before) (leaves old) → changes old ≡ changes before
+      → Elapses moment since leaves read_at lasted_at before old → faults before ≤ faults old
+      → IsUntouched files changes leaves moment since read_at lasted_at faults before mid
+  listed_first {before} same quiet time later =
+      passing.both files changes leaves moment since read_at lasted_at faults before old mid
+      (passing.one_call files changes leaves moment since read_at lasted_at faults before old same
       quiet time later)
+      looked
 
   pub told_on : (new : D) → SameTold (files mid) (files new) → SameTold (files old) (files new)
   told_on new on =

@@ -20,15 +20,16 @@ use Rattle.std.proofs.Common.{
   inr,
   arith,
 }
-use Rattle.std.specs.Prelude.{◌↔◌, Err, IfSome, false}
+use Rattle.std.specs.Prelude.{◌↔◌, Err, IfSome}
 use Rattle.std.proofs.lemmas.Option.{none-some}
 use Rattle.std.specs.FinMap as finmap
-use Rattle.std.specs.List.{flat_map}
+use Rattle.clog_base.specs.declared.cell.Cell.{Cell}
+use Rattle.clog_base.specs.declared.cell.CellKey.{CellKey}
+use Rattle.clog_base.specs.declared.position.Position.{Position}
 use Rattle.clog_cells.proofs.Made.{merge_of}
 use Rattle.clog_disk.specs.Files.{Files, Lists, SameTold, Told, bytes_at}
 use Rattle.clog_disk.specs.Images.{IsImage, LastsAll, Within}
 use Rattle.clog_disk.proofs.Named.{same_files}
-use Rattle.clog_crash.specs.Counts.{IsLog}
 use Rattle.clog_crash.specs.Flush.{IsSameFolder, IsSettled}
 use Rattle.clog_crash.specs.Folder.{cells_of_tables}
 use Rattle.clog_crash.specs.Readings.{RestoresIn}
@@ -39,13 +40,12 @@ use Rattle.clog_crash.proofs.changes.Covering.{exactly}
 use Rattle.clog_crash.proofs.rest.Opening.{at_opening}
 use Rattle.clog_folder.specs.declared.fault.OpenFault.{OpenFault}
 use Rattle.clog_folder.specs.declared.fault.OpenFault.TheVariants.{Disk, OutOfMemory}
-use Rattle.clog_folder.specs.declared.folder.Folder.{Folder}
-use Rattle.clog_folder.specs.Folder.{IsHeldOf, payloads_of}
+use Rattle.clog_folder.specs.declared.tables.TableHeld.{TableHeld}
 use Rattle.clog_folder.specs.Tables.{read_of}
-use Rattle.replay_merge.proofs.Replayed.{one_log, restores}
+use Rattle.replay_merge.proofs.Replayed.{restores}
 use Rattle.clog_segments.specs.declared.opening.Known.{Known}
 use Rattle.clog_segments.specs.Filing.{StepCause}
-use Rattle.clog_segments.specs.Live.{HasLive}
+use Rattle.clog_segments.specs.Live.{IsLogOf}
 use Rattle.clog_segments.specs.Named.{IsIdBase}
 use Rattle.clog_segments.specs.Opened.{
   HasRows,
@@ -56,6 +56,7 @@ use Rattle.clog_segments.specs.Opened.{
   LeavesAlone,
   OpenRefused,
 }
+use Rattle.clog_segments.proofs.Live.{is_log}
 use Rattle.clog_segments.proofs.Looking.{id_base, within}
 
 -- ---- what stays
@@ -96,14 +97,15 @@ lasts_on first old new lasts within name left has = lasts name left (within name
 
 module _ (first : Files) (files : Option Files) (is : files ≡ Some first) (moment : ℕ)
     (known : Known) (is_known : IsKnown files moment known) where
-  held : IsHeldOf false (Some first) known.folder
-  held = subst (λ (o : Option Files). IsHeldOf false o known.folder) is is_known.held
+  log : IsLogOf (Some first) is_known.tables known.cells known.top
+  log = subst (λ (o : Option Files). IsLogOf o is_known.tables known.cells known.top) is
+      is_known.log
 
   lists : Lists (Some first) known.names
   lists = subst (λ (o : Option Files). Lists o known.names) is is_known.lists
 
   pub known_undamaged : IsUndamaged first
-  known_undamaged = held.told.readable.undamaged refl
+  known_undamaged = log.told.read.readable.undamaged refl
 
   pub known_settled : (leaves : List ℕ → Option (List ℕ) → Type 0) → LastsAll first leaves
       → IsSettled first leaves
@@ -111,16 +113,16 @@ module _ (first : Files) (files : Option Files) (is : files ≡ Some first) (mom
 
   pub known_above : (n : ℕ) → NamesAny first n → n < known.base
   known_above n named =
-      (id_base first known.names lists known.folder.tables held.told.are_tables moment known.base
+      (id_base first known.names lists is_known.tables log.told.read.are_tables moment known.base
       is_known.base_is).above n named
 
   pub is_opened : (told : Option Files) → Told told (IsRecovered first known.base)
       → Told told (IsOpened first moment known.base)
   is_opened None recovered = absurd recovered
   is_opened (Some now) recovered = record {
-    within = within first known.folder known.names moment known.base held lists is_known.few
+    within = within first log.told known.names moment known.base lists is_known.few
         is_known.base_is;
-    is_base = id_base first known.names lists known.folder.tables held.told.are_tables moment
+    is_base = id_base first known.names lists is_known.tables log.told.read.are_tables moment
         known.base is_known.base_is;
     recovered = recovered;
   }
@@ -176,18 +178,15 @@ exact_told (Some now) leaves settled = settled.exact
 -- ---- what it restores to
 
 -- a folder that was read restores to some rows
-pub has_rows : (first : Files) (files : Option Files) → files ≡ Some first → (folder : Folder)
-    → IsHeldOf false files folder → HasLive folder.tables folder.segments → HasRows first
-has_rows first files is folder held live =
-    let read = (subst (λ (o : Option Files). IsHeldOf false o folder) is held).told in
-    let cells = live.1 in
-    let same = one_log (flat_map payloads_of folder.segments) cells.log read.log cells.say
-    read.say in
-    let is_log : IsLog first cells.log = subst (IsLog first) (sym same) read.is_log in
-    let rows = merge_of (cells.merged.cells ++ cells_of_tables (map read_of folder.tables)) in (
+pub has_rows : (first : Files) {files : Option Files} {tables : List TableHeld}
+    {cells : List (CellKey × Cell)} {top : Position} → files ≡ Some first
+    → IsLogOf files tables cells top → HasRows first
+has_rows first {files} {tables} {cells} {top} is log =
+    let l = subst (λ (o : Option Files). IsLogOf o tables cells top) is log in
+    let rows = merge_of (l.live.merged.cells ++ cells_of_tables (map read_of tables)) in (
       rows.0,
-      restores first folder.tables read.are_tables cells.log is_log cells.merged cells.taken
-          rows.0 rows.1,
+      restores first tables l.told.read.are_tables l.live.log
+          (is_log tables l.ps cells l.live first l.told) l.live.merged l.live.taken rows.0 rows.1,
     )
 
 -- ---- why it is refused

@@ -1,25 +1,6 @@
 -- What was read of a folder is what its recovery needs.
-use Rattle.std.proofs.Common.{
-  ◌≡◌,
-  ℕ,
-  ◌<◌,
-  List,
-  [],
-  ◌∷◌,
-  map,
-  Some,
-  Contains,
-  refl,
-  sym,
-  ap,
-  subst,
-  ◌∙◌,
-  inl,
-  inr,
-  arith,
-}
-use Rattle.std.specs.Prelude.{false}
-use Rattle.std.specs.List.{flat_map}
+use Rattle.std.proofs.Common.{◌≡◌, ℕ, ◌<◌, List, [], ◌∷◌, map, Contains, refl, sym, ap, subst, ◌∙◌}
+use Rattle.std.proofs.Common.{inl, inr, arith}
 use Rattle.std.specs.FinMap as finmap
 use Rattle.clog_base.specs.declared.cell.Cell.{Cell}
 use Rattle.clog_base.specs.declared.cell.CellKey.{CellKey}
@@ -36,11 +17,12 @@ use Rattle.clog_crash.proofs.Good.{payload_is_said}
 use Rattle.clog_crash.proofs.changes.BothWays.{logged, logged_in}
 use Rattle.clog_crash.proofs.recovery.Decided.{skipped_in_or_not}
 use Rattle.clog_crash.proofs.recovery.Whole.{ends_behind}
-use Rattle.clog_folder.specs.declared.folder.Folder.{Folder}
-use Rattle.clog_folder.specs.Folder.{IsHeldOf, PlacedPayload, Say, payloads_of}
+use Rattle.clog_folder.specs.declared.tables.TableHeld.{TableHeld}
+use Rattle.clog_folder.specs.Folder.{PlacedPayload, Say}
 use Rattle.clog_folder.specs.Tables.{read_of}
+use Rattle.replay_merge.specs.Logged.{AreLive, IsTop, start}
 use Rattle.clog_segments.specs.Filing.{IsReady}
-use Rattle.clog_segments.specs.Live.{AreLive, IsTop, start}
+use Rattle.clog_segments.specs.Live.{HasLog}
 use Rattle.clog_segments.proofs.Live.{is_log, live_merge, said}
 
 -- each payload is a mutation's that is logged
@@ -68,14 +50,11 @@ up_to_start : (id offset : ℕ) → 0 < offset → IsUpTo (record { id = id; off
 up_to_start id offset some (inl less) = omega (arith, less)
 up_to_start id offset some (inr same) = omega (arith, some, same.1)
 
-module _ (first : Files) (folder : Folder) (held : IsHeldOf false (Some first) folder)
-    (cells : List (CellKey × Cell)) (live : AreLive folder.tables folder.segments cells)
-    (top : Position) (is_top : IsTop (flat_map payloads_of folder.segments) top) where
-  abbrev ps : List PlacedPayload
-  ps = flat_map payloads_of folder.segments
-
+module _ (first : Files) (tables : List TableHeld) (ps : List PlacedPayload)
+    (has_log : HasLog tables ps first) (cells : List (CellKey × Cell))
+    (live : AreLive tables ps cells) (top : Position) (is_top : IsTop ps top) where
   log_is : IsLog first live.log
-  log_is = is_log folder.tables folder.segments cells live first held.told
+  log_is = is_log tables ps cells live first has_log
 
   -- an entry that is logged has a payload there
   placed_one : (id : ℕ) (entry : Entry) → IsLoggedIn (bytes_at first) id entry
@@ -84,8 +63,8 @@ module _ (first : Files) (folder : Folder) (held : IsHeldOf false (Some first) f
       let there = logged first id entry l in
       let s = there.segment in
       let mutation = payload_is_said first there.name s.bytes id there.entries there.end entry
-      (held.told.readable.undamaged refl) s.named s.there
-      (held.are_files there.name s.bytes id s.named s.there) s.holds there.listed in
+      (has_log.read.readable.undamaged refl) s.named s.there
+      (has_log.are_files there.name s.bytes id s.named s.there) s.holds there.listed in
       let m : LoggedMutation = record { at = end_position id entry; mutation = mutation.0 } in
       let p = said ps live.log m live.say ((log_is.are m).0 (record {
         entry = entry;
@@ -123,8 +102,8 @@ module _ (first : Files) (folder : Folder) (held : IsHeldOf false (Some first) f
       → IsReady first names cells top
   ready_of names lists = record {
     lists = lists;
-    undamaged = held.told.readable.undamaged refl;
-    live = live_merge folder.tables folder.segments cells live first held.told;
+    undamaged = has_log.read.readable.undamaged refl;
+    live = live_merge tables ps cells live first has_log;
     greatest = greatest;
-    decides = skipped_in_or_not first (map read_of folder.tables) held.told.are_tables;
+    decides = skipped_in_or_not first (map read_of tables) has_log.read.are_tables;
   }

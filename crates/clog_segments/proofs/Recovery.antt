@@ -16,8 +16,7 @@ use Rattle.std.proofs.Common.{
   ap,
   subst,
 }
-use Rattle.std.specs.Prelude.{IsSome, false}
-use Rattle.std.specs.List.{flat_map}
+use Rattle.std.specs.Prelude.{IsSome}
 use Rattle.std.specs.FinMap as finmap
 use Rattle.clog_spec.specs.Names.{IsSegmentName, segment_name_of}
 use Rattle.clog_spec.specs.Sizes.{most_tables}
@@ -32,9 +31,7 @@ use Rattle.clog_crash.specs.Restore.{IsUndamaged}
 use Rattle.clog_crash.proofs.OneMore.{bytes_of}
 use Rattle.clog_crash.proofs.changes.Names.{is_named}
 use Rattle.clog_crash.proofs.flush.Recovered.{same_itself}
-use Rattle.clog_folder.specs.declared.folder.Folder.{Folder}
-use Rattle.clog_folder.specs.declared.segment.SegmentHeld.{SegmentHeld}
-use Rattle.clog_folder.specs.Folder.{IsHeldOf, payloads_of}
+use Rattle.clog_folder.specs.declared.tables.TableHeld.{TableHeld}
 use Rattle.clog_folder.proofs.Listed.{held_of, listed_of}
 use Rattle.clog_segments.specs.Beside.{StayButSegments}
 use Rattle.clog_segments.specs.Coming.{AreGone, AreThere, IsRecovering, Recovers}
@@ -46,7 +43,7 @@ use Rattle.clog_segments.specs.Filing.{
   IsReady,
   SettledTo,
 }
-use Rattle.clog_segments.specs.Live.{AreLive, IsTop}
+use Rattle.clog_segments.specs.Live.{IsLogOf}
 use Rattle.clog_segments.specs.Named.{AreSegmentIds}
 use Rattle.clog_segments.specs.Opened.{IsRecovered, OthersStay, RecoversOnly}
 use Rattle.clog_segments.proofs.Ended.{all_ids_covered, are_there, is_recovered, listed_id}
@@ -58,35 +55,34 @@ Pairs = List (CellKey × Cell)
 
 -- ---- at the beginning
 
-module _ (first : Files) (told : Option Files) (is : told ≡ Some first) (folder : Folder)
-    (held : IsHeldOf false told folder) where
-  held_first : IsHeldOf false (Some first) folder
-  held_first = subst (λ (o : Option Files). IsHeldOf false o folder) is held
+module _ (first : Files) (told : Option Files) (is : told ≡ Some first) {tables : List TableHeld}
+    {cells : Pairs} {top : Position} (log : IsLogOf told tables cells top) where
+  log_first : IsLogOf (Some first) tables cells top
+  log_first = subst (λ (o : Option Files). IsLogOf o tables cells top) is log
 
   pub undamaged_first : IsUndamaged first
-  undamaged_first = held_first.told.readable.undamaged refl
+  undamaged_first = log_first.told.read.readable.undamaged refl
 
   pub same_told : Told told (IsSameFolder first)
   same_told =
       subst (λ (o : Option Files). Told o (IsSameFolder first)) (sym is)
       (same_itself first undamaged_first)
 
-  pub begins : (cells : Pairs) → FiledNow first cells 0 told
-  begins cells =
+  pub begins : FiledNow first cells 0 told
+  begins =
       subst (λ (o : Option Files). FiledNow first cells 0 o) (sym is)
       (filed_none first cells undamaged_first)
 
-  pub begins_settled : (cells : Pairs) (leaves : List ℕ → Option (List ℕ) → Type 0)
+  pub begins_settled : (leaves : List ℕ → Option (List ℕ) → Type 0)
       → IsSettled first leaves → SettledTo first cells 0 told leaves
-  begins_settled cells leaves settled =
+  begins_settled leaves settled =
       subst (λ (o : Option Files). SettledTo first cells 0 o leaves) (sym is)
       (filed_none first cells undamaged_first, settled)
 
-  pub ready_told : (names : List (List ℕ)) (cells : Pairs) (top : Position) → Lists told names
-      → AreLive folder.tables folder.segments cells
-      → IsTop (flat_map payloads_of folder.segments) top → IsReady first names cells top
-  ready_told names cells top lists live is_top =
-      ready_of first folder held_first cells live top is_top names
+  pub ready_told : (names : List (List ℕ)) → Lists told names → IsReady first names cells top
+  ready_told names lists =
+      let l = log_first in
+      ready_of first tables l.ps l.told cells l.live top l.reaches names
       (subst (λ (o : Option Files). Lists o names) is lists)
 
 -- A folder that was read: it is ready to be recovered, and no table's file has come yet.
@@ -97,16 +93,13 @@ pub record IsRead (first : Files) (told : Option Files) (names : List (List ℕ)
   pub settled : (leaves : List ℕ → Option (List ℕ) → Type 0) → IsSettled first leaves
       → SettledTo first cells 0 told leaves
 
-pub is_read : (first : Files) {told : Option Files} {folder : Folder} {names : List (List ℕ)}
-    {cells : Pairs} {top : Position} {segments : List SegmentHeld} → told ≡ Some first
-    → IsHeldOf false told folder → Lists told names
-    → AreLive folder.tables folder.segments cells → segments ≡ folder.segments
-    → IsTop (flat_map payloads_of segments) top → IsRead first told names cells top
-is_read first {told} {folder} {names} {cells} {top} is held lists live same is_top = record {
-  ready = ready_told first told is folder held names cells top lists live
-      (subst (λ (hs : List SegmentHeld). IsTop (flat_map payloads_of hs) top) same is_top);
-  begun = begins first told is folder held cells;
-  settled = begins_settled first told is folder held cells;
+pub is_read : (first : Files) {told : Option Files} {tables : List TableHeld}
+    {names : List (List ℕ)} {cells : Pairs} {top : Position} → told ≡ Some first
+    → IsLogOf told tables cells top → Lists told names → IsRead first told names cells top
+is_read first {told} {tables} {names} is log lists = record {
+  ready = ready_told first told is log names lists;
+  begun = begins first told is log;
+  settled = begins_settled first told is log;
 }
 
 -- the ids that were read stand in a slice

@@ -50,11 +50,13 @@ use Rattle.clog_folder.specs.declared.fault.OpenFault.TheVariants.{
   Limit,
   OutOfMemory,
 }
-use Rattle.clog_folder.specs.Folder.{CanBeRead, HasDamage, HasLongSegment, IsHeldOf}
+use Rattle.clog_folder.specs.declared.tables.TableHeld.{TableHeld}
+use Rattle.clog_folder.specs.Folder.{CanBeRead, HasDamage, HasLongSegment}
 use Rattle.clog_segments.specs.declared.opening.Known.{Known}
 use Rattle.clog_segments.specs.Coming.{HaveRemoved}
 use Rattle.clog_segments.specs.Filing.{AreRecoveryPuts, HasPut, HaveAllLive}
 use Rattle.clog_segments.specs.Life.{State}
+use Rattle.clog_segments.specs.Live.{IsLogOf}
 use Rattle.clog_segments.specs.Named.{
   AreSegmentIds,
   IsIdBase,
@@ -208,10 +210,11 @@ HandsOn P (result.Err back) = P back.0
 
 -- What is known of a folder that can be opened, from a moment.
 pub record IsKnown (files : Option Files) (moment : ℕ) (known : Known) : Type 0 where
-  pub held : IsHeldOf false files known.folder
+  pub tables : List TableHeld
+  pub log : IsLogOf files tables known.cells known.top
   pub lists : Lists files known.names
   pub few : ¬ Any IsLateTable known.names
-  pub base_is : IsIdBase (NamesOne known.names known.folder.tables) moment known.base
+  pub base_is : IsIdBase (NamesOne known.names tables) moment known.base
 
 abbrev pub Looks : Option Files → ℕ → ℕ → ℕ → Result Known OpenFault → Type 0
 Looks files faults now moment (result.Ok known) = IsKnown files moment known

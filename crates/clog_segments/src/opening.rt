@@ -1,53 +1,41 @@
 //! A folder is opened: it is read, up to what is refused, and recovered. Its log then goes on at a
 //! base above all that it named.
-ghost use Rattle.std.specs.Prelude.{◌≡◌, ◌≤◌, ◌<◌, ◌^◌, ℕ, [], Some, false, IfOk, OnOk};
+ghost use Rattle.std.specs.Prelude.{◌≡◌, ◌≤◌, ◌<◌, ◌^◌, ℕ, List, [], Some, IfOk, OnOk};
 ghost use Rattle.std.specs.List.{Any};
 ghost use Rattle.clog_disk.specs.Files.{Files, Lists, SameTold, Told};
 ghost use Rattle.clog_disk.specs.Images.{IsLater, LastsAll, LeavesOnly};
 ghost use Rattle.clog_crash.specs.Flush.{IsSameFolder, IsSettled};
 ghost use Rattle.clog_crash.specs.Recovery.{NamesAny};
 ghost use Rattle.clog_crash.specs.Rest.{IsAtRest};
-ghost use Rattle.clog_folder.specs.Folder.{IsHeldOf};
+ghost use Rattle.clog_folder.specs.declared.tables.TableHeld.{TableHeld as table_held};
 ghost use Rattle.clog_folder.specs.Passing.{IsUntouched, TellsEach};
-ghost use Rattle.clog_segments.specs.Filing.{
-  AreRecoveryPuts,
-  ComesFrom,
-  LeavesFrom,
-  StaysFrom,
-  StepCause,
-};
-ghost use Rattle.clog_segments.specs.Live.{HasLive};
+ghost use Rattle.clog_segments.specs.Filing.{AreRecoveryPuts, ComesFrom, LeavesFrom, StaysFrom};
+ghost use Rattle.clog_segments.specs.Filing.{StepCause};
+ghost use Rattle.clog_segments.specs.Live.{IsLogOf};
 ghost use Rattle.clog_segments.specs.Named.{IsLateTable};
-ghost use Rattle.clog_segments.specs.Opened.{
-  HasRows,
-  IsRecovered,
-  KeepsFolder,
-  LeavesAlone,
-  Looks,
-  Opens,
-  OthersStay,
-  RecoversAll,
-  RecoversFirst,
-  RecoversOnly,
-};
+ghost use Rattle.clog_segments.specs.Opened.{HasRows, IsRecovered, KeepsFolder, LeavesAlone, Looks};
+ghost use Rattle.clog_segments.specs.Opened.{Opens, OthersStay, RecoversAll, RecoversFirst};
+ghost use Rattle.clog_segments.specs.Opened.{RecoversOnly};
 
-use crate::log_cells::{live_cells, top_of};
 use crate::naming::{SEQUENCE_LIMIT, base_of, has_late_table, segment_ids};
+use crate::reading::read_both;
 use crate::recovering::take_all_recovered;
 use crate::recovery_files::put_tables;
-use clog_base::{Name, Quantity, Rows};
+use clog_base::{Name, Position, Quantity, Rows};
+use clog_cells::CellMap;
 use clog_disk::Disk;
-use clog_folder::{Folder, OpenFault, fault_of, read_folder};
+use clog_folder::{OpenFault, fault_of};
 use std::alloc::Global;
 
-/// Recovers a folder that was read and has these names.
+/// Recovers a folder of these names, whose log restores these cells and reaches so far.
 fn recover_folder<D: Disk>(
     alloc: Global,
     disk: &mut D,
-    folder: &Folder,
     names: &[Name],
+    cells: CellMap,
+    top: Position,
 ) -> Result<(), OpenFault>
-    requires held { IsHeldOf false (D.files disk.old) folder.now }
+    requires log { (tables : List table_held) × IsLogOf (D.files disk.old) tables cells top }
     requires lists { Lists (D.files disk.old) names.now }
     requires few { ¬ Any IsLateTable names.now }
     ensures told { SameTold (D.files disk.old) (D.files disk.new) }
@@ -65,7 +53,6 @@ fn recover_folder<D: Disk>(
     ensures files { (first : Files) → D.files disk.old ≡ Some first → (base : ℕ)
         → ((n : ℕ) → NamesAny first n → n < base)
         → OnOk result (Told (D.files disk.new) (IsRecovered first base)) }
-    ensures live { OnOk result (HasLive folder.now.tables folder.now.segments) }
     ensures settles { (first : Files) → D.files disk.old ≡ Some first
         → IsSettled first (D.leaves disk.old)
         → OnOk result (Told (D.files disk.new) (λ now. IsSettled now (D.leaves disk.new))) }
@@ -77,8 +64,6 @@ fn recover_folder<D: Disk>(
         → StaysFrom D.moment D.since D.leaves first disk.old disk.new }
 {
     let ids = segment_ids(alloc, names)?;
-    let cells = live_cells(alloc, folder)?;
-    let top = top_of(folder.segments.as_slice());
     // Matches in place of `?`, since the exits speak of the folder.
     match put_tables(alloc, disk, names, cells, top) {
         Ok(()) => {}
@@ -93,7 +78,8 @@ fn recover_folder<D: Disk>(
 /// What is known of a folder that can be opened.
 #[derive(Drop)]
 struct Known {
-    folder: Folder,
+    cells: CellMap,
+    top: Position,
     names: Rows<Name>,
     base: u64,
 }
@@ -106,20 +92,21 @@ fn look<D: Disk>(alloc: Global, disk: &mut D, moment: u64) -> Result<Known, Open
         D.faults disk.old disk.new }
 {
     // Matches in place of `?`, since the exits speak of what was read.
-    let folder = match read_folder(alloc, disk, false) {
-        Ok(folder) => folder,
-        Err(fault) => return Err(fault),
-    };
     let names = match disk.list() {
         Ok(names) => names,
         Err(fault) => return Err(fault_of(fault)),
     };
+    let (tables, log) = match read_both(alloc, disk, names.as_slice()) {
+        Ok(both) => both,
+        Err(fault) => return Err(fault),
+    };
     if has_late_table(names.as_slice()) {
         return Err(OpenFault::Limit(Quantity::TableFiles, SEQUENCE_LIMIT));
     }
-    match base_of(names.as_slice(), folder.tables.as_slice(), moment) {
+    match base_of(names.as_slice(), tables.as_slice(), moment) {
         Ok(base) => Ok(Known {
-            folder,
+            cells: log.cells,
+            top: log.top,
             names,
             base,
         }),
@@ -131,11 +118,11 @@ fn look<D: Disk>(alloc: Global, disk: &mut D, moment: u64) -> Result<Known, Open
 /// which its log goes on: the moment, or one more than the greatest id that the folder named. The
 /// moment is one in milliseconds.
 ///
-/// Table files are read first, then segments, each refused where it is the first that is bad; then
-/// the limits on sequences and on ids are looked at. Recovery puts files of new names, each with
-/// the newest cells of one table that the log restores, one for each table that has such cells, in
-/// the order of tables; then it removes the segments in the order of their ids. It changes nothing
-/// else.
+/// Table files are read first, then segments in pieces of at most 64 KiB, each refused where it is
+/// the first that is bad; then the limits on sequences and on ids are looked at. Recovery puts files
+/// of new names, each with the newest cells of one table that the log restores, one for each table
+/// that has such cells, in the order of tables; then it removes the segments in the order of their
+/// ids. It changes nothing else.
 ///
 /// - `Disk`: only where the disk's count of faults has risen in this call. Else it stays.
 /// - `BadTable`, `Damaged`, `Limit`: exactly where the folder is so. The disk is then as it was.
@@ -187,8 +174,14 @@ pub fn recover<D: Disk>(alloc: Global, disk: &mut D, moment: u64) -> Result<u64,
         Ok(known) => known,
         Err(fault) => return Err(fault),
     };
-    match recover_folder(alloc, disk, &known.folder, known.names.as_slice()) {
-        Ok(()) => Ok(known.base),
+    let Known {
+        cells,
+        top,
+        names,
+        base,
+    } = known;
+    match recover_folder(alloc, disk, names.as_slice(), cells, top) {
+        Ok(()) => Ok(base),
         Err(fault) => Err(fault),
     }
 }

@@ -23,6 +23,7 @@ mod recorder;
 mod rereading;
 mod running;
 mod sections;
+mod segments;
 mod stores;
 mod tally;
 mod timing;

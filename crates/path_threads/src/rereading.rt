@@ -2,10 +2,10 @@
 //! the commits were answered, and its sections are of these.
 use crate::plan::Plan;
 use crate::sections::{Entry, check_sections, sections_in};
+use crate::segments::{SegmentRead, segments_on};
 use anyhow::{Result, bail};
 use clog_base::Position;
 use clog_disk::Disk;
-use clog_folder::{Folder, SegmentHeld, read_folder};
 use clog_io::OpenGate;
 use clog_scan::Found;
 use replay_merge::replay;
@@ -14,21 +14,13 @@ use std::sync::Wait;
 use std::thread::Threads;
 use write_path::Receipt;
 
-/// What a disk has.
-pub fn folder_on<D: Disk>(alloc: Global, disk: &mut D) -> Result<Folder> {
-    match read_folder(alloc, disk, false) {
-        Ok(folder) => Ok(folder),
-        Err(_) => bail!("the disk is not read again"),
-    }
-}
-
 // Adds an entry for each that was found in a segment, by the receipts of which it takes the next.
-fn add_entries(entries: &mut Vec<Entry>, held: &SegmentHeld, receipts: &[Receipt]) -> Result<()> {
-    for found in held.entries.as_slice() {
+fn add_entries(entries: &mut Vec<Entry>, read: &SegmentRead, receipts: &[Receipt]) -> Result<()> {
+    for found in read.entries.as_slice() {
         let Some(receipt) = receipts.get(entries.len()) else {
             bail!("more entries than receipts");
         };
-        entries.push(entry_of(held.id, *found, receipt)?)?;
+        entries.push(entry_of(read.id, *found, receipt)?)?;
     }
     Ok(())
 }
@@ -50,17 +42,17 @@ fn entry_of(id: u64, found: Found, receipt: &Receipt) -> Result<Entry> {
     })
 }
 
-/// The entries of a folder, in order, each with its receipt, whose position is its end. There are
+/// The entries of segments, in order, each with its receipt, whose position is its end. There are
 /// as many receipts, which are in the order of their positions then.
 pub fn entries_in(
     alloc: Global,
-    folder: &Folder,
+    segments: &[SegmentRead],
     receipts: &mut Vec<Receipt>,
 ) -> Result<Vec<Entry>> {
     receipts.sort_unstable_by_key(|receipt| receipt.position);
     let mut entries = Vec::new(alloc);
-    for held in folder.segments.as_slice() {
-        add_entries(&mut entries, held, receipts.as_slice())?;
+    for read in segments {
+        add_entries(&mut entries, read, receipts.as_slice())?;
     }
     if entries.len() != receipts.len() {
         bail!("{} entries of {} receipts", entries.len(), receipts.len());
@@ -92,9 +84,9 @@ pub fn read_again<R: Threads + Wait + Sync, D: Disk>(
     plan: Plan,
 ) -> Result<u64> {
     let replayed = replayed_on(rt, alloc, disk)?;
-    let folder = folder_on(alloc, disk)?;
-    let entries = entries_in(alloc, &folder, receipts)?;
-    let sections = sections_in(alloc, &folder)?;
+    let segments = segments_on(alloc, disk)?;
+    let entries = entries_in(alloc, segments.as_slice(), receipts)?;
+    let sections = sections_in(alloc, segments.as_slice())?;
     let is_batch = plan.is_batch();
     check_sections(sections.as_slice(), entries.as_slice(), writers, is_batch)?;
     if replayed != entries.len() as u64 {

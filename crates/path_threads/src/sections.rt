@@ -1,9 +1,9 @@
 //! The sections of a folder's segments, read from their headers on, and what stands in them.
 use crate::plan::writer_of;
+use crate::segments::SegmentRead;
 use anyhow::{Result, bail};
 use clog_base::{HEADER_SIZE, MARKER_SIZE};
 use clog_entry::{Marker, read_header, read_marker};
-use clog_folder::Folder;
 use std::alloc::Global;
 
 /// A section of a segment.
@@ -50,11 +50,11 @@ fn add_sections(sections: &mut Vec<Section>, id: u64, bytes: &[u8]) -> Result<()
     bail!("segment {id} does not end")
 }
 
-/// The sections of a folder's segments, in order.
-pub fn sections_in(alloc: Global, folder: &Folder) -> Result<Vec<Section>> {
+/// The sections of segments, in order.
+pub fn sections_in(alloc: Global, segments: &[SegmentRead]) -> Result<Vec<Section>> {
     let mut sections = Vec::new(alloc);
-    for held in folder.segments.as_slice() {
-        add_sections(&mut sections, held.id, held.bytes.as_slice())?;
+    for read in segments {
+        add_sections(&mut sections, read.id, read.bytes.as_slice())?;
     }
     Ok(sections)
 }

@@ -1,8 +1,9 @@
 //! Two commits of one writer over a store in memory: each byte that they leave, and what the checks
 //! say of sections that are wrong.
 use crate::plan::Plan;
-use crate::rereading::{entries_in, folder_on};
+use crate::rereading::entries_in;
 use crate::sections::{Entry, Section, check_sections, sections_in};
+use crate::segments::segments_on;
 use crate::stores::{check_run, run_recorded};
 use anyhow::{Result, bail};
 use clog_base::{HEADER_SIZE, MARKER_SIZE};
@@ -77,12 +78,12 @@ fn print_disk<R: Print>(
     receipts: &mut Vec<Receipt>,
     plan: Plan,
 ) -> Result<()> {
-    let folder = folder_on(alloc, disk)?;
-    let entries = entries_in(alloc, &folder, receipts)?;
-    let sections = sections_in(alloc, &folder)?;
-    for held in folder.segments.as_slice() {
-        let bytes = held.bytes.as_slice();
-        println!(rt; "segment {} has {} bytes", held.id, bytes.len())?;
+    let segments = segments_on(alloc, disk)?;
+    let entries = entries_in(alloc, segments.as_slice(), receipts)?;
+    let sections = sections_in(alloc, segments.as_slice())?;
+    for read in segments.as_slice() {
+        let bytes = read.bytes.as_slice();
+        println!(rt; "segment {} has {} bytes", read.id, bytes.len())?;
         print_parts(rt, bytes, sections.as_slice(), entries.as_slice())?;
     }
     match sections.first() {

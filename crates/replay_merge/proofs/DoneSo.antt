@@ -24,10 +24,9 @@ use Rattle.replay_merge.specs.Piped.{IsDone, IsFirstOf, IsFirstOfBoth, IsLeastRe
 use Rattle.replay_merge.specs.Piped.{IsGoodOrBehind, IsRefusal, IsRefusedAs, IsUpTo, JoinsPiped}
 use Rattle.replay_merge.specs.Piped.{TakesPiped, TakesRefused, placed_of}
 use Rattle.replay_merge.specs.Taking.{IsTakenOf, TakesLog}
-use Rattle.replay_merge.proofs.Interleaved.{Interleaves}
-use Rattle.replay_merge.proofs.Joined.{taken_both, taken_between}
 use Rattle.replay_merge.proofs.Reordered.{moved_by, order_of, picks_moved, taken_in_any_order}
 use Rattle.replay_merge.proofs.NoneTaken.{none_taken}
+use Rattle.replay_merge.proofs.Taken.{taken_both, taken_more}
 
 -- ---- refusals
 
@@ -104,13 +103,6 @@ only_refused e r is = (
   )),
 )
 
--- ---- lists
-
-behind : {A : Type 0} (us vs : List A) → Interleaves us vs (us ++ vs)
-behind [] [] = (refl, refl)
-behind [] (v ∷ vs) = inr (vs, refl, behind [] vs)
-behind (u ∷ us) vs = inl (us, refl, behind us vs)
-
 module _ (tables : List TableHeld) where
   pub nothing_done : (s : Piped) → s.merged.cells ≡ [] → s.merged.updates ≡ 0
       → s.merged.skipped ≡ 0 → s.entries ≡ 0 → s.refused ≡ None → IsDone tables [] s
@@ -132,9 +124,8 @@ module _ (tables : List TableHeld) where
         (inl (good, ([], refl, refl)));
     taken = subst (λ (ps : List PlacedPayload). IsTakenOf tables ps new.merged)
         (sym (map-append placed_of is.good (e ∷ [])))
-        (taken_between tables (map placed_of is.good) (placed_of e ∷ [])
-        (map placed_of is.good ++ placed_of e ∷ []) old.merged new.merged is.taken takes
-        (behind (map placed_of is.good) (placed_of e ∷ [])));
+        (taken_more tables (map placed_of is.good) (placed_of e ∷ []) old.merged new.merged
+        is.taken takes);
     entries = omega (arith, entries, is.entries, length-append is.good (e ∷ []));
     first = first_joined items (e ∷ []) old.refused None new.refused is.first (only_good e good)
         refused;
@@ -175,9 +166,8 @@ module _ (tables : List TableHeld) where
     picks = picks_both IsGood items more one.good two.good one.picks two.picks;
     taken = subst (λ (ps : List PlacedPayload). IsTakenOf tables ps c.merged)
         (sym (map-append placed_of one.good two.good))
-        (taken_both tables (map placed_of one.good) (map placed_of two.good)
-        (map placed_of one.good ++ map placed_of two.good) a.merged b.merged c.merged one.taken
-        two.taken (behind (map placed_of one.good) (map placed_of two.good)) join.merged);
+        (taken_both tables (map placed_of one.good) (map placed_of two.good) a.merged b.merged
+        c.merged one.taken two.taken join.merged);
     entries = omega (
       arith,
       join.entries,

@@ -13,16 +13,15 @@ use Rattle.clog_scan.specs.declared.answer.Found.{Found}
 use Rattle.clog_scan.specs.Laws.{AreLaidOut, place_of}
 use Rattle.clog_scan.specs.Segment.{found_of}
 use Rattle.clog_scan.proofs.Order.{laid}
-use Rattle.clog_folder.specs.declared.segment.SegmentHeld.{SegmentHeld}
 use Rattle.clog_folder.specs.Entries.{EndsWell, IsGoodIn}
 use Rattle.clog_folder.specs.Folder.{payloads_of, placed}
 use Rattle.clog_folder.specs.Listing.{Picks}
-use Rattle.clog_folder.specs.Segments.{AreHeld, IsHeldAt, Row}
+use Rattle.clog_folder.specs.Segments.{AreHeld, IsHeldAt, Row, SegmentHeld}
 use Rattle.replay_merge.specs.declared.piped.Entry.{Entry as Item}
 use Rattle.replay_merge.specs.Piped.{IsGood, placed_of}
 use Rattle.replay_merge.specs.Places.{AreGiven, IsGivenAt}
 use Rattle.replay_merge.specs.Streaming.{IsReadOf, entry_in}
-use Rattle.replay_merge.proofs.Joined.{picks_split}
+use Rattle.replay_merge.proofs.Picked.{picks_split}
 
 abbrev pub AllGood : List Item → Type 0
 AllGood items = (e : Item) → Contains items e → IsGood e

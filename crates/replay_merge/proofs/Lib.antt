@@ -1,8 +1,8 @@
 pub mod DoneSo
-pub mod Interleaved
-pub mod Joined
 pub mod Kept
+pub mod LogRead
 pub mod NoneTaken
+pub mod Picked
 pub mod PlacesRead
 pub mod Reordered
 pub mod Replayed
@@ -10,3 +10,4 @@ pub mod Settled
 pub mod Stopped
 pub mod Streamed
 pub mod Taken
+pub mod Tops

@@ -1,24 +1,23 @@
 -- What was merged is what the folder restores to, and what was counted is its counts.
-use Rattle.std.proofs.Common.{◌≡◌, ℕ, ◌+◌, suc, List, [], ◌∷◌, ◌++◌, length, map, take, drop}
-use Rattle.std.proofs.Common.{get_or, ◌<◌, ◌≤◌, All, append_assoc, length-append, Option, Some}
-use Rattle.std.proofs.Common.{None, Contains, refl, sym, ap, subst, ◌∙◌, inl, inr, arith}
+use Rattle.std.proofs.Common.{◌≡◌, ℕ, suc, List, [], ◌∷◌, ◌++◌, length, map}
+use Rattle.std.proofs.Common.{append_assoc, Option, Some}
+use Rattle.std.proofs.Common.{None, Contains, refl, sym, ap, subst, ◌∙◌, inl, inr}
 use Rattle.std.specs.Prelude.{Bool, IfSome}
-use Rattle.std.specs.List.{AllByRecursion, flat_map}
-use Rattle.std.proofs.lemmas.List.{append-nil, length-map, map-append, take-append-drop}
+use Rattle.std.specs.List.{flat_map}
+use Rattle.std.proofs.lemmas.List.{append-nil, length-map, map-append}
 use Rattle.std.proofs.lemmas.Grind.{flat_map-append}
-use Rattle.std.proofs.lemmas.List.Elements.{All-contains, All-from_recursion, Contains-append_cases}
+use Rattle.std.proofs.lemmas.List.Elements.{All-contains, Contains-append_cases}
 use Rattle.std.proofs.lemmas.List.Elements.{Contains-append_left, Contains-append_right}
 use Rattle.clog_base.specs.declared.cell.Cell.{Cell}
 use Rattle.clog_base.specs.declared.cell.CellKey.{CellKey}
 use Rattle.clog_base.specs.declared.cell.Table.{Table}
 use Rattle.clog_base.specs.declared.position.Position.{Position}
-use Rattle.clog_base.proofs.Members.{from_flat, from_map, further, here, in_flat, in_map}
+use Rattle.clog_base.proofs.Members.{from_flat, from_map, in_flat, in_map}
 use Rattle.clog_cells.specs.Merge.{IsMerge}
 use Rattle.clog_cells.proofs.Merging.{continues, of_same}
 use Rattle.clog_disk.specs.Files.{Files}
 use Rattle.clog_mutation.specs.declared.mutation.Update.{Update}
 use Rattle.clog_mutation.proofs.Decoding.{one_mutation}
-use Rattle.clog_scan.specs.Laws.{IsRange}
 use Rattle.clog_table.specs.declared.table_file.TableFile.{TableFile}
 use Rattle.clog_crash.specs.Counts.{HaveIt, IsLog, IsNameOfTable, IsStoodFor, LoggedMutation}
 use Rattle.clog_crash.specs.Counts.{PlacedUpdate, updates_of as placed_of}
@@ -27,13 +26,10 @@ use Rattle.clog_crash.specs.Folder.{TableRead, cells_in, cells_of_tables, place_
 use Rattle.clog_crash.specs.Restore.{IsInInterval, IsLoggedCell, IsRestored, IsSkipped, Restores}
 use Rattle.clog_crash.specs.Restore.{end_position}
 use Rattle.clog_crash.proofs.TableFiles.{in_table_cell, known_read, table_cell_in}
-use Rattle.clog_folder.specs.declared.folder.Folder.{Folder}
-use Rattle.clog_folder.specs.declared.segment.SegmentHeld.{SegmentHeld}
 use Rattle.clog_folder.specs.declared.tables.TableHeld.{TableHeld}
-use Rattle.clog_folder.specs.Folder.{IsHeldOf, IsReadAs, AreNamed, PlacedPayload, Say, payloads_of}
-use Rattle.clog_folder.specs.Folder.{placed}
+use Rattle.clog_folder.specs.Folder.{IsReadAs, AreNamed, PlacedPayload, Say, payloads_of}
 use Rattle.clog_folder.specs.Listing.{AreRows, IsSegmentAt, Picks, segment_cmp}
-use Rattle.clog_folder.specs.Segments.{HaveHeld, Row}
+use Rattle.clog_folder.specs.Segments.{HaveHeld, Row, SegmentHeld}
 use Rattle.clog_folder.specs.Tables.{HaveRead, read_of}
 use Rattle.clog_folder.proofs.Counting.{picks_all}
 use Rattle.clog_folder.proofs.EntriesCounted.{picks_have}
@@ -47,9 +43,7 @@ use Rattle.replay_merge.specs.Merged.{updates_of}
 use Rattle.replay_merge.specs.Piped.{IsLeastRefused, placed_of as piped_as}
 use Rattle.replay_merge.specs.Restoring.{IsReplayOf, IsRestoredOf}
 use Rattle.replay_merge.specs.Settling.{HasPiped}
-use Rattle.replay_merge.specs.Taking.{AreRanges}
 use Rattle.replay_merge.proofs.Kept.{keeps_places}
-use Rattle.replay_merge.proofs.Taken.{seen}
 
 abbrev Pairs : Type 0
 Pairs = List (CellKey × Cell)
@@ -294,21 +288,6 @@ replays ignore (Some files) tables table_rows rows segment_names table_names s r
 
 -- ---- the steps
 
-all_from : {A : Type 0} (P : A → Type 0) (xs : List A) → ((x : A) → Contains xs x → P x)
-    → AllByRecursion P xs
-all_from P [] has = tt
-all_from P (x ∷ xs) has =
-    (has x (here x xs), all_from P xs (λ y there. has y (further x xs y there)))
-
-pub ranges_of : (ignore : Bool) (files : Option Files) (folder : Folder)
-    → IsHeldOf ignore files folder → All AreRanges folder.segments
-ranges_of ignore files folder held =
-    All-from_recursion AreRanges folder.segments
-    (all_from AreRanges folder.segments (λ s there.
-    All-from_recursion (IsRange (length s.bytes)) s.entries
-    (all_from (IsRange (length s.bytes)) s.entries (λ f inside.
-    (held.entries s f there inside).range))))
-
 pub cells_more : (old mid new : Pairs) (front : List TableHeld) (held : TableHeld)
     → IsMerge (old ++ cells_of_tables (map read_of front)) mid
     → IsMerge (mid ++ held.file.cells) new
@@ -324,32 +303,3 @@ cells_more old mid new front held so_far step =
     (append_assoc old (cells_of_tables (map read_of front)) held.file.cells
     ∙ ap (λ (l : Pairs). old ++ l) more)
     (continues (old ++ cells_of_tables (map read_of front)) mid held.file.cells new so_far step)
-
-pub entries_more : (segments : List SegmentHeld) (i n : ℕ) (held : SegmentHeld)
-    → i < length segments → held ≡ get_or segments i held
-    → n ≡ length (flat_map payloads_of (take i segments))
-    → n + length held.entries ≡ length (flat_map payloads_of (take (i + 1) segments))
-entries_more segments i n held inside is so_far =
-    let parts : length (flat_map payloads_of (take i segments ++ held ∷ []))
-    ≡ length (flat_map payloads_of (take i segments)) + length held.entries =
-    ap length (flat_map-append payloads_of (take i segments) (held ∷ []))
-    ∙ length-append (flat_map payloads_of (take i segments)) (payloads_of held ++ [])
-    ∙ ap (λ (k : ℕ). length (flat_map payloads_of (take i segments)) + k)
-    (ap length (append-nil (payloads_of held)) ∙ length-map held.entries (placed held)) in
-    ap (λ (k : ℕ). k + length held.entries) so_far ∙ sym parts
-    ∙ ap (λ (hs : List SegmentHeld). length (flat_map payloads_of hs))
-    (seen segments i held inside is)
-
--- no more than all
-pub segments_fit : (segments : List SegmentHeld) (i : ℕ)
-    → length (flat_map payloads_of (take i segments)) ≤ length (flat_map payloads_of segments)
-segments_fit segments i =
-    let parts : length (flat_map payloads_of segments)
-    ≡ length (flat_map payloads_of (take i segments))
-    + length (flat_map payloads_of (drop i segments)) =
-    ap (λ (hs : List SegmentHeld). length (flat_map payloads_of hs))
-    (sym (take-append-drop i segments))
-    ∙ ap length (flat_map-append payloads_of (take i segments) (drop i segments))
-    ∙ length-append (flat_map payloads_of (take i segments))
-    (flat_map payloads_of (drop i segments)) in
-    omega (arith, parts)

@@ -27,8 +27,9 @@ use Rattle.replay_merge.specs.declared.piped.Refused.{Refused}
 use Rattle.replay_merge.specs.Piped.{IsDone, IsGood, IsGoodOrBehind, IsLeastRefused, IsRefusedAs}
 use Rattle.replay_merge.specs.Places.{AreGiven, GivesPlaces, HaveGiven, IsTornBehind, StopsAt}
 use Rattle.replay_merge.specs.Places.{StopsLong, StopsTorn}
-use Rattle.replay_merge.specs.Settling.{ChecksPiped, IsFirstFault, IsPayloadDamage}
-use Rattle.replay_merge.proofs.Joined.{picks_split}
+use Rattle.replay_merge.specs.Settling.{ChecksPiped, IsFirstFault, IsPayloadDamage, PipesFolder}
+use Rattle.replay_merge.specs.Settling.{SettlesTo}
+use Rattle.replay_merge.proofs.Picked.{picks_split}
 use Rattle.replay_merge.proofs.Kept.{AllGood, keeps_places}
 use Rattle.replay_merge.proofs.Stopped.{payload_first, stands_at, torn_first}
 
@@ -188,7 +189,7 @@ stopped_is ignore files f n rows items places good picks all other given = absur
 module _ (ignore : Bool) (files : Option Files) (f n : ℕ) (rows : List Row) (items : List Item)
     (tables : List TableHeld) (places : Placed files rows) where
   -- a payload is refused
-  pub payload_refused : (streamed : Result Unit OpenFault) (piped : Option Piped)
+  payload_refused : (streamed : Result Unit OpenFault) (piped : Option Piped)
       (refusal : OpenFault) → GivesPlaces ignore files f n rows items streamed
       → IsFirstFault streamed None → IfSome piped (IsDone tables items)
       → ChecksPiped ignore piped (Err refusal) → SegmentsRefused ignore files f n refusal
@@ -220,7 +221,7 @@ module _ (ignore : Bool) (files : Option Files) (f n : ℕ) (rows : List Row) (i
   all_good s done none strict = subst (IsLeastRefused items) (none strict) done.first
 
   -- the place at which reading stopped
-  pub reading_refused : (refusal : OpenFault) (s : Piped)
+  reading_refused : (refusal : OpenFault) (s : Piped)
       → GivesPlaces ignore files f n rows items (Err refusal) → IsDone tables items s
       → (ignore ≡ false → s.refused ≡ None) → SegmentsRefused ignore files f n refusal
   reading_refused refusal s given done none =
@@ -228,7 +229,7 @@ module _ (ignore : Bool) (files : Option Files) (f n : ℕ) (rows : List Row) (i
       (all_good s done none) refusal given
 
   -- a fault of the disk, or want of memory
-  pub first_refused : (streamed : Result Unit OpenFault) (refusal : OpenFault)
+  first_refused : (streamed : Result Unit OpenFault) (refusal : OpenFault)
       → GivesPlaces ignore files f n rows items streamed
       → IsFirstFault streamed (Some refusal) → SegmentsRefused ignore files f n refusal
   first_refused (Err fault.Disk) refusal given first =
@@ -241,3 +242,24 @@ module _ (ignore : Bool) (files : Option Files) (f n : ℕ) (rows : List Row) (i
   first_refused (Err (fault.Limit quantity most)) refusal given first = absurd cc
   first_refused (Err (fault.Damaged name at cause)) refusal given first = absurd cc
   first_refused (Err (fault.BadTable name why)) refusal given first = absurd cc
+
+  -- what is answered
+  pub settles : (streamed : Result Unit OpenFault) (piped : Option Piped)
+      (r : Result Piped OpenFault) → GivesPlaces ignore files f n rows items streamed
+      → IfSome piped (IsDone tables items) → SettlesTo ignore streamed piped r
+      → PipesFolder ignore files f n tables rows r
+  settles streamed piped (Ok s) given done is = record {
+    items = items;
+    given = subst (GivesPlaces ignore files f n rows items) is.0 given;
+    done = subst (λ (p : Option Piped). IfSome p (IsDone tables items)) is.1.0 done;
+    none = is.1.1;
+  }
+  settles streamed piped (Err refusal) given done (inl first) =
+      first_refused streamed refusal given first
+  settles streamed piped (Err refusal) given done (inr (inl found)) =
+      payload_refused streamed piped refusal given found.0 done found.1
+  settles streamed piped (Err refusal) given done (inr (inr stopped)) =
+      reading_refused refusal stopped.1.0
+      (subst (GivesPlaces ignore files f n rows items) stopped.0 given)
+      (subst (λ (p : Option Piped). IfSome p (IsDone tables items)) stopped.1.1.0 done)
+      stopped.1.1.1

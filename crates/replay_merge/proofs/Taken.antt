@@ -1,31 +1,28 @@
 -- Updates are taken in one after another.
 use Rattle.std.proofs.Common.{◌≡◌, ℕ, ◌+◌, ◌<◌, take, get_or, List, [], ◌∷◌, ◌++◌, length, map}
-use Rattle.std.proofs.Common.{refl, sym, ap, subst, ◌∙◌, Bool, append_assoc, length-append, inl}
+use Rattle.std.proofs.Common.{refl, sym, ap, subst, ◌∙◌, append_assoc, length-append, inl}
 use Rattle.std.proofs.Common.{inr, arith}
 use Rattle.std.specs.List.{flat_map}
-use Rattle.std.proofs.lemmas.List.{append-nil, length-map, map-append, take_more}
+use Rattle.std.proofs.lemmas.List.{append-nil, map-append, take_more}
 use Rattle.std.proofs.lemmas.Grind.{flat_map-append}
 use Rattle.clog_base.specs.declared.cell.Cell.{Cell}
 use Rattle.clog_base.specs.declared.cell.CellKey.{CellKey}
 use Rattle.clog_cells.specs.Merge.{IsMerge}
-use Rattle.clog_cells.proofs.Merging.{continues}
+use Rattle.clog_cells.proofs.Merging.{continues, joins}
 use Rattle.clog_mutation.specs.declared.lent.LentUpdate.{LentUpdate}
 use Rattle.clog_mutation.specs.declared.mutation.Update.{Update}
 use Rattle.clog_mutation.specs.Lent.{update_lent}
-use Rattle.clog_scan.specs.declared.answer.Found.{Found}
 use Rattle.clog_base.specs.declared.position.Position.{Position}
 use Rattle.clog_crash.specs.Counts.{LoggedMutation}
-use Rattle.clog_folder.specs.declared.segment.SegmentHeld.{SegmentHeld}
 use Rattle.clog_folder.specs.declared.tables.TableHeld.{TableHeld}
-use Rattle.clog_folder.specs.Folder.{PlacedPayload, Say, payloads_of, placed}
+use Rattle.clog_folder.specs.Folder.{PlacedPayload, Say}
 use Rattle.clog_folder.specs.Listing.{Picks}
 use Rattle.clog_folder.proofs.EntriesCounted.{picks_both}
 use Rattle.replay_merge.specs.declared.merged.Merged.{Merged}
-use Rattle.replay_merge.specs.Merged.{IsKept, IsMergedOf, IsSkip, IsSkippedBy, KeyedUpdate, Takes}
+use Rattle.replay_merge.specs.Merged.{IsJoin, IsKept, IsMergedOf, IsSkip, IsSkippedBy}
+use Rattle.replay_merge.specs.Merged.{KeyedUpdate, Takes}
 use Rattle.replay_merge.specs.Merged.{TakesOne, keyed, pair_at, updates_of}
-use Rattle.replay_merge.specs.Rounds.{numbered}
-use Rattle.replay_merge.specs.Taking.{TakesEntry, TakesLog}
-use Rattle.replay_merge.proofs.Interleaved.{numbered_both}
+use Rattle.replay_merge.specs.Taking.{IsTakenOf, TakesLog}
 
 -- what is seen up to an index, and what stands there
 pub seen : {A : Type 0} (xs : List A) (i : ℕ) (x : A) → i < length xs → x ≡ get_or xs i x
@@ -114,10 +111,7 @@ module _ (tables : List TableHeld) where
       (update_more at key (map update_lent (take i updates)) (update_lent one) old mid new so_far
       step)
 
-  -- ---- entries, and segments
-
-  pub no_log : (m : Merged) → TakesLog tables [] m m
-  no_log m = record { log = []; say = refl; takes = takes_none m }
+  -- ---- entries
 
   say_both : (ps qs : List PlacedPayload) (log more : List LoggedMutation) → Say ps log
       → Say qs more → Say (ps ++ qs) (log ++ more)
@@ -134,66 +128,54 @@ module _ (tables : List TableHeld) where
     ),
   )
 
-  pub log_both : (ps qs : List PlacedPayload) (old mid new : Merged) → TakesLog tables ps old mid
-      → TakesLog tables qs mid new → TakesLog tables (ps ++ qs) old new
-  log_both ps qs old mid new first second = record {
+  -- payloads more are taken in
+  pub taken_more : (ps qs : List PlacedPayload) (old new : Merged) → IsTakenOf tables ps old
+      → TakesLog tables qs old new → IsTakenOf tables (ps ++ qs) new
+  taken_more ps qs old new has more = record {
+    log = has.log ++ more.log;
+    say = say_both ps qs has.log more.log has.say more.say;
+    taken = subst (λ (us : List KeyedUpdate). IsMergedOf tables us new)
+        (sym (flat_map-append updates_of has.log more.log))
+        (more.takes (flat_map updates_of has.log) has.taken);
+  }
+
+  -- ---- what two workers have
+
+  merged_both : (us vs : List KeyedUpdate) (a b c : Merged) → IsMergedOf tables us a
+      → IsMergedOf tables vs b → IsJoin a b c → IsMergedOf tables (us ++ vs) c
+  merged_both us vs a b c first second join = record {
+    kept = first.kept ++ second.kept;
+    picks_kept = picks_both Left us vs first.kept second.kept first.picks_kept second.picks_kept;
+    cells = subst (λ (l : Pairs). IsMerge l c.cells)
+        (sym (map-append pair_at first.kept second.kept))
+        (joins (map pair_at first.kept) (map pair_at second.kept) a.cells b.cells c.cells
+        first.cells second.cells join.cells);
+    updates = omega (
+      arith,
+      join.updates,
+      first.updates,
+      second.updates,
+      length-append first.kept second.kept,
+    );
+    gone = first.gone ++ second.gone;
+    picks_gone = picks_both (IsSkippedBy tables) us vs first.gone second.gone first.picks_gone
+        second.picks_gone;
+    skipped = omega (
+      arith,
+      join.skipped,
+      first.skipped,
+      second.skipped,
+      length-append first.gone second.gone,
+    );
+  }
+
+  pub taken_both : (ps qs : List PlacedPayload) (a b c : Merged) → IsTakenOf tables ps a
+      → IsTakenOf tables qs b → IsJoin a b c → IsTakenOf tables (ps ++ qs) c
+  taken_both ps qs a b c first second join = record {
     log = first.log ++ second.log;
     say = say_both ps qs first.log second.log first.say second.say;
-    takes = subst (λ (us : List KeyedUpdate). Takes tables us old new)
+    taken = subst (λ (us : List KeyedUpdate). IsMergedOf tables us c)
         (sym (flat_map-append updates_of first.log second.log))
-        (takes_both (flat_map updates_of first.log) (flat_map updates_of second.log) old mid new
-        first.takes second.takes);
+        (merged_both (flat_map updates_of first.log) (flat_map updates_of second.log) a b c
+        first.taken second.taken join);
   }
-
-  pub entry_log : (held : SegmentHeld) (found : Found) (old new : Merged)
-      → TakesEntry tables held.id held.bytes found old new
-      → TakesLog tables (placed held found ∷ []) old new
-  entry_log held found old new is = record {
-    log = record {
-      at = record { id = held.id; offset = found.end };
-      mutation = is.mutation;
-    } ∷ [];
-    say = (
-      record { at = record { id = held.id; offset = found.end }; mutation = is.mutation },
-      ([], refl, refl, is.said, refl),
-    );
-    takes = subst (λ (us : List KeyedUpdate). Takes tables us old new)
-        (sym (append-nil _)) is.takes;
-  }
-
-  -- one entry more of a segment
-  pub entry_more : (P : ℕ → Bool) (held : SegmentHeld) (first number : ℕ) (front : List Found)
-      (found : Found) (old mid new : Merged) → number ≡ first + length front
-      → TakesLog tables (numbered P first (map (placed held) front)) old mid
-      → TakesLog tables (numbered P number (placed held found ∷ [])) mid new
-      → TakesLog tables (numbered P first (map (placed held) (front ++ found ∷ []))) old new
-  entry_more P held first number front found old mid new is so_far step =
-      let ps = map (placed held) front in
-      let at : number ≡ first + length ps =
-      is ∙ ap (λ k. first + k) (sym (length-map front (placed held))) in
-      subst (λ (qs : List PlacedPayload). TakesLog tables qs old new)
-      (sym (ap (λ (qs : List PlacedPayload). numbered P first qs)
-      (map-append (placed held) front (found ∷ []))
-      ∙ numbered_both P first ps (placed held found ∷ [])))
-      (log_both (numbered P first ps)
-      (numbered P (first + length ps) (placed held found ∷ [])) old mid new so_far
-      (subst (λ k. TakesLog tables (numbered P k (placed held found ∷ [])) mid new) at step))
-
-  -- one segment more
-  pub segment_more : (P : ℕ → Bool) (front : List SegmentHeld) (held : SegmentHeld) (number : ℕ)
-      (old mid new : Merged) → number ≡ length (flat_map payloads_of front)
-      → TakesLog tables (numbered P 0 (flat_map payloads_of front)) old mid
-      → TakesLog tables (numbered P number (payloads_of held)) mid new
-      → TakesLog tables (numbered P 0 (flat_map payloads_of (front ++ held ∷ []))) old new
-  segment_more P front held number old mid new is so_far step =
-      let ps = flat_map payloads_of front in
-      let all : ps ++ payloads_of held ≡ flat_map payloads_of (front ++ held ∷ []) =
-      ap (λ (l : List PlacedPayload). ps ++ l) (sym (append-nil (payloads_of held)))
-      ∙ sym (flat_map-append payloads_of front (held ∷ [])) in
-      subst (λ (qs : List PlacedPayload). TakesLog tables qs old new)
-      (ap (λ k. numbered P 0 ps ++ numbered P k (payloads_of held))
-      (let e : length ps ≡ 0 + length ps = omega arith in e)
-      ∙ sym (numbered_both P 0 ps (payloads_of held))
-      ∙ ap (λ (qs : List PlacedPayload). numbered P 0 qs) all)
-      (log_both (numbered P 0 ps) (numbered P (length ps) (payloads_of held)) old mid new so_far
-      (subst (λ k. TakesLog tables (numbered P k (payloads_of held)) mid new) is step))

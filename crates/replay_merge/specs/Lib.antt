@@ -1,8 +1,9 @@
+pub mod Alone
+pub mod Logged
 pub mod Merged
 pub mod Piped
 pub mod Places
 pub mod Restoring
-pub mod Rounds
 pub mod Settling
 pub mod Skipping
 pub mod Streaming

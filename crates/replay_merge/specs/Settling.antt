@@ -1,5 +1,6 @@
 -- What is answered of a folder whose segments were read and merged: for private clauses.
-use Rattle.std.specs.Prelude.{◌≡◌, ℕ, List, Bool, false, Option, Some, None, IfSome, ⊤, Result, Ok}
+use Rattle.std.specs.Prelude.{◌≡◌, ◌⊎◌, ℕ, List, Bool, false, Option, Some, None, IfSome, ⊤, Result}
+use Rattle.std.specs.Prelude.{Ok}
 use Rattle.std.specs.declared.result.Result.TheVariants as result
 use Rattle.clog_spec.specs.Names.{segment_name_of}
 use Rattle.clog_disk.specs.Files.{Files}
@@ -35,6 +36,15 @@ ChecksPiped ignore piped (result.Err (fault.Damaged name at cause)) =
     (ignore ≡ false) × ((s : Piped) × ((r : Refused) × (piped ≡ Some s) × (s.refused ≡ Some r)
     × IsPayloadDamage r name at cause))
 ChecksPiped ignore piped (result.Err other) = ⊥
+
+-- what is answered of segments that were read so far, and of what was taken of them
+abbrev pub SettlesTo : Bool → Result Unit OpenFault → Option Piped → Result Piped OpenFault → Type 0
+SettlesTo ignore streamed piped (result.Ok s) =
+    (streamed ≡ Ok tt) × ChecksPiped ignore piped (result.Ok s)
+SettlesTo ignore streamed piped (result.Err refusal) =
+    IsFirstFault streamed (Some refusal)
+    ⊎ ((IsFirstFault streamed None × ChecksPiped ignore piped (result.Err refusal))
+    ⊎ ((streamed ≡ result.Err refusal) × ((s : Piped) × ChecksPiped ignore piped (result.Ok s))))
 
 -- What was merged is of all entries of the folder; where damage is not passed over, none is
 -- refused.

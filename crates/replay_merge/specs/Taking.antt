@@ -1,30 +1,11 @@
 -- What the steps of merging a log answer: for private clauses.
-use Rattle.std.specs.Prelude.{ℕ, List, length, map, All}
+use Rattle.std.specs.Prelude.{List}
 use Rattle.std.specs.List.{flat_map}
-use Rattle.clog_mutation.specs.declared.mutation.Mutation.{Mutation}
-use Rattle.clog_mutation.specs.Stored.{IsPayload}
-use Rattle.clog_scan.specs.declared.answer.Found.{Found}
-use Rattle.clog_scan.specs.Laws.{IsRange}
 use Rattle.clog_crash.specs.Counts.{LoggedMutation}
-use Rattle.clog_folder.specs.declared.segment.SegmentHeld.{SegmentHeld}
 use Rattle.clog_folder.specs.declared.tables.TableHeld.{TableHeld}
-use Rattle.clog_folder.specs.Entries.{payload_in}
 use Rattle.clog_folder.specs.Folder.{PlacedPayload, Say}
 use Rattle.replay_merge.specs.declared.merged.Merged.{Merged}
-use Rattle.replay_merge.specs.Merged.{IsMergedOf, Takes, keyed, updates_of}
-
--- the entries lie in the segment's bytes
-abbrev pub AreRanges : SegmentHeld → Type 0
-AreRanges held = All (IsRange (length held.bytes)) held.entries
-
--- The mutation of an entry is taken in.
-pub record TakesEntry (tables : List TableHeld) (id : ℕ) (bytes : List ℕ) (found : Found)
-    (old new : Merged) : Type 0 where
-  pub mutation : Mutation
-  pub said : IsPayload (payload_in bytes found) mutation
-  pub takes :
-      Takes tables
-      (map (keyed (record { id = id; offset = found.end }) mutation.key) mutation.updates) old new
+use Rattle.replay_merge.specs.Merged.{IsMergedOf, Takes, updates_of}
 
 -- The mutations of these payloads are taken in.
 pub record TakesLog (tables : List TableHeld) (ps : List PlacedPayload) (old new : Merged) : Type 0

@@ -1,140 +1,77 @@
-//! A log that is held whole is merged by the caller alone, for those who start no thread.
-//!
-//! Its entries are numbered from 0 by position, and every third is taken in each of three rounds.
-//! Keys often ascend with positions, and a tree that is filled in ascending order is left with
-//! nodes half empty, which entries of later rounds fill. The order in which cells are merged does
-//! not matter.
-ghost use Rattle.std.specs.Prelude.{◌≡◌, ◌+◌, ◌^◌, ◌<◌, IfOk, OnOk, [], ◌∷◌, length, All};
-ghost use Rattle.std.specs.List.{flat_map};
-ghost use Rattle.clog_scan.specs.Laws.{IsRange};
-ghost use Rattle.clog_folder.specs.Folder.{payloads_of, placed};
-ghost use Rattle.replay_merge.specs.Rounds.{is_in_round, numbered};
-ghost use Rattle.replay_merge.specs.Taking.{AreRanges, IsTakenOf, TakesEntry, TakesLog};
+//! A sink of one thread: each entry is decoded and merged as it is put.
+ghost use Rattle.std.specs.Prelude.{◌≡◌, ◌++◌, ◌∷◌, [], IfSome, List};
+ghost use Rattle.replay_merge.specs.declared.piped.Entry.{Entry as log_entry};
+ghost use Rattle.replay_merge.specs.Alone.{TakesAlone, alone_more, alone_none};
+ghost use Rattle.replay_merge.specs.Logged.{IsLaterOf};
+ghost use Rattle.replay_merge.specs.Piped.{IsDone};
 
-use crate::merged::Merged;
-use crate::restoring::count_entries;
-use crate::taking::take_mutation;
-use clog_base::{OutOfMemory, Position};
-use clog_entry::ENTRY_FRONT_SIZE;
-use clog_folder::{SegmentHeld, TableHeld};
-use clog_mutation::lend;
-use clog_scan::Found;
+use crate::piped::{Entry, Piped};
+use crate::piping::take_piped;
+use clog_base::Position;
+use clog_folder::TableHeld;
+use replay_queue::Sink;
 use std::alloc::Global;
 
-/// How many rounds are made.
-const ROUNDS: u8 = 3;
-
-/// Whether the entry of a number is taken in a round.
-fn is_in_round(number: u64, round: u8) -> bool
-    ensures { result ≡ is_in_round round number }
-{
-    number % u64::from(ROUNDS) == u64::from(round)
+/// What entries come to that one thread takes, and how far they reach.
+pub(crate) struct Alone<'a> {
+    pub(crate) alloc: Global,
+    /// The table files, for whose intervals updates are left out.
+    pub(crate) tables: &'a [TableHeld],
+    /// None once memory was refused: entries behind that are dropped.
+    pub(crate) piped: Option<Piped>,
+    /// The greatest position of an entry.
+    pub(crate) top: Position,
 }
 
-/// Takes in the mutation of an entry of a segment.
-fn take_entry(
+/// The later of two positions.
+fn later(top: Position, at: Position) -> Position
+    ensures { IsLaterOf top at result }
+{
+    if at.is_up_to(top) {
+        return top;
+    }
+    at
+}
+
+/// What entries come to with one more; None where memory was refused.
+fn take_next(
     alloc: Global,
     tables: &[TableHeld],
-    merged: &mut Merged,
-    id: u64,
-    bytes: &[u8],
-    found: Found,
-) -> Result<(), OutOfMemory>
-    requires { IsRange (length bytes.now) found }
-    ensures { OnOk result (TakesEntry tables.now id bytes.now found merged.old merged.new) }
+    piped: Option<Piped>,
+    entry: &Entry,
+) -> Option<Piped>
+    ensures { (before : List log_entry) → IfSome piped (IsDone tables.now before)
+        → IfSome result (IsDone tables.now (before ++ entry.now ∷ [])) }
 {
-    let payload = &bytes[found.start as usize + ENTRY_FRONT_SIZE..found.end as usize - 4];
-    // The entries that count have mutations, so only memory can be wanting.
-    let Ok(mutation) = lend(alloc, payload) else {
-        return Err(OutOfMemory);
+    let Some(mut state) = piped else {
+        return None;
     };
-    let at = Position {
-        id,
-        offset: found.end,
-    };
-    take_mutation(alloc, tables, merged, at, &mutation)
+    match take_piped(alloc, tables, &mut state, entry) {
+        Ok(_) => Some(state),
+        Err(_) => None,
+    }
 }
 
-/// Takes in the entry of a number if it is of the round.
-fn take_numbered(
-    alloc: Global,
-    tables: &[TableHeld],
-    merged: &mut Merged,
-    held: &SegmentHeld,
-    found: Found,
-    number: u64,
-    round: u8,
-) -> Result<(), OutOfMemory>
-    requires { IsRange (length held.now.bytes) found }
-    ensures { OnOk result (TakesLog tables.now
-        (numbered (is_in_round round) number (placed held.now found ∷ [])) merged.old merged.new) }
-{
-    if !is_in_round(number, round) {
-        return Ok(());
-    }
-    take_entry(alloc, tables, merged, held.id, held.bytes.as_slice(), found)?;
-    Ok(())
-}
+impl<'a> Sink<Entry> for Alone<'a> {
+    ghost use Rattle.std.specs.Prelude.{◌≡◌, ⊤};
+    ghost use Rattle.replay_merge.specs.Alone.{TakesAlone, alone_more, alone_none};
 
-/// Takes in those entries of a segment that are of the round. The segment's first entry has this
-/// number.
-fn take_segment(
-    alloc: Global,
-    tables: &[TableHeld],
-    merged: &mut Merged,
-    held: &SegmentHeld,
-    first: u64,
-    round: u8,
-) -> Result<(), OutOfMemory>
-    requires ranges { AreRanges held.now }
-    requires few { first + length held.now.entries < 2 ^ 64 }
-    ensures { OnOk result (TakesLog tables.now
-        (numbered (is_in_round round) first (payloads_of held.now)) merged.old merged.new) }
-{
-    let mut number = first;
-    for found in held.entries.as_slice() {
-        take_numbered(alloc, tables, merged, held, *found, number, round)?;
-        number += 1;
-    }
-    Ok(())
-}
+    ghost can_put = { λ s. ⊤ };
 
-/// Takes in what is of one round of all segments.
-fn take_round(
-    alloc: Global,
-    tables: &[TableHeld],
-    merged: &mut Merged,
-    segments: &[SegmentHeld],
-    round: u8,
-) -> Result<(), OutOfMemory>
-    requires ranges { All AreRanges segments.now }
-    requires few { length (flat_map payloads_of segments.now) < 2 ^ 64 }
-    ensures { OnOk result (TakesLog tables.now
-        (numbered (is_in_round round) 0 (flat_map payloads_of segments.now)) merged.old
-        merged.new) }
-{
-    let mut number = 0;
-    for held in segments {
-        take_segment(alloc, tables, merged, held, number, round)?;
-        number += held.entries.len() as u64;
-    }
-    Ok(())
-}
+    ghost goes_on = { λ s items t. (t.tables.now ≡ s.tables.now)
+        × TakesAlone s.tables.now s.piped s.top items t.piped t.top };
 
-/// What the entries of segments merge to, but for updates for which table files stand.
-pub fn merge_alone(
-    alloc: Global,
-    tables: &[TableHeld],
-    segments: &[SegmentHeld],
-) -> Result<Merged, OutOfMemory>
-    requires { All AreRanges segments.now }
-    ensures { IfOk result (IsTakenOf tables.now (flat_map payloads_of segments.now)) }
-{
-    // Entries are numbered, so there are to be numbers enough.
-    count_entries(segments)?;
-    let mut merged = Merged::new(alloc);
-    for round in 0..ROUNDS {
-        take_round(alloc, tables, &mut merged, segments, round)?;
+    ghost put_none = { λ s. alone_none s.tables.now s.piped s.top };
+
+    ghost put_more = { λ a b c items more one two. alone_more a.tables.now b.tables.now
+        c.tables.now a.piped a.top items b.piped b.top more c.piped c.top one two };
+
+    fn push(&mut self, entry: Entry) {
+        let at = Position {
+            id: entry.id,
+            offset: entry.end,
+        };
+        self.piped = take_next(self.alloc, self.tables, self.piped.take(), &entry);
+        self.top = later(self.top, at);
     }
-    Ok(merged)
 }

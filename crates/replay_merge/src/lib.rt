@@ -4,7 +4,8 @@
 //! Table files are read first, by the caller. Then it reads the segments in pieces, and puts their
 //! entries into a bounded queue; workers take them from there, decode and merge them, each into
 //! cells of its own, and what each has is merged into one. So no segment is held whole, and which
-//! worker takes an entry makes no difference.
+//! worker takes an entry makes no difference. `read_log` reads the segments in the same way, and
+//! merges their entries by itself.
 #![tactic(auto)]
 
 mod alone;
@@ -12,6 +13,7 @@ mod merged;
 mod piped;
 mod piping;
 mod places;
+mod reading;
 mod replaying;
 mod restoring;
 mod settling;
@@ -20,7 +22,7 @@ mod source;
 mod streaming;
 mod taking;
 
-pub use alone::merge_alone;
 pub use merged::Merged;
+pub use reading::{Logged, read_log};
 pub use replaying::replay;
 pub use restoring::{Counts, Restored};

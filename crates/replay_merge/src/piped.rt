@@ -1,6 +1,11 @@
 //! Entries that are taken in any order, and what is known of those that were.
+ghost use Rattle.std.specs.Prelude.{[], List};
+ghost use Rattle.clog_folder.specs.declared.tables.TableHeld.{TableHeld as table_held};
+ghost use Rattle.replay_merge.specs.Piped.{IsDone};
+
 use crate::merged::Merged;
 use clog_base::PayloadFault;
+use std::alloc::Global;
 
 /// An entry of the log: its segment's id, its range there, in bytes, and its payload.
 #[derive(Drop)]
@@ -35,4 +40,17 @@ pub struct Piped {
     pub entries: u64,
     /// The first of the others.
     pub refused: Option<Refused>,
+}
+
+impl Piped {
+    /// What no entry comes to.
+    pub(crate) fn new(alloc: Global) -> Piped
+        ensures { (tables : List table_held) → IsDone tables [] result }
+    {
+        Piped {
+            merged: Merged::new(alloc),
+            entries: 0,
+            refused: None,
+        }
+    }
 }

@@ -6,7 +6,6 @@ ghost use Rattle.replay_merge.specs.declared.piped.Entry.{Entry as log_entry};
 ghost use Rattle.replay_merge.specs.Piped.{IsDone, IsFirstOf, IsFirstOfBoth, IsRefusal, IsUpTo};
 ghost use Rattle.replay_merge.specs.Piped.{JoinsPiped, TakesGood, TakesPiped};
 
-use crate::merged::Merged;
 use crate::piped::{Entry, Piped, Refused};
 use crate::taking::take_mutation;
 use clog_base::{OutOfMemory, PayloadFault, Position, Writer};
@@ -111,7 +110,7 @@ fn refusal(bytes: &[u8]) -> Option<PayloadFault>
 }
 
 /// Takes an entry in, and tells whether it was merged: one whose payload is no mutation's is not.
-fn take_piped(
+pub(crate) fn take_piped(
     alloc: Global,
     tables: &[TableHeld],
     state: &mut Piped,
@@ -141,11 +140,7 @@ impl<'a, G: Gate> Work<Entry, Piped> for Piping<'a, G> {
     ghost done = { λ w s items. IsDone w.tables.now items s };
 
     fn begin(&self) -> Piped {
-        Piped {
-            merged: Merged::new(self.alloc),
-            entries: 0,
-            refused: None,
-        }
+        Piped::new(self.alloc)
     }
 
     fn take(&self, state: &mut Piped, worker: Option<u8>, item: Entry) -> Result<(), AllocError> {

@@ -1,9 +1,7 @@
 //! What a folder restores to, and its counts.
-ghost use Rattle.std.specs.Prelude.{◌≡◌, ◌++◌, IfOk, List, OnOk, length, map};
-ghost use Rattle.std.specs.List.{flat_map};
+ghost use Rattle.std.specs.Prelude.{◌++◌, IfOk, List, OnOk, map};
 ghost use Rattle.clog_cells.specs.Merge.{AreInOrder, IsMerge};
 ghost use Rattle.clog_crash.specs.Folder.{cells_of_tables};
-ghost use Rattle.clog_folder.specs.Folder.{payloads_of};
 ghost use Rattle.clog_folder.specs.Tables.{read_of};
 ghost use Rattle.replay_merge.specs.declared.piped.Entry.{Entry as log_entry};
 ghost use Rattle.replay_merge.specs.Piped.{IsDone};
@@ -12,7 +10,7 @@ ghost use Rattle.replay_merge.specs.Restoring.{IsRestoredOf};
 use crate::piped::Piped;
 use clog_base::OutOfMemory;
 use clog_cells::CellMap;
-use clog_folder::{SegmentHeld, TableHeld};
+use clog_folder::TableHeld;
 
 /// How much was read of a folder.
 #[derive(Clone, Copy, Debug, PartialEq, Eq)]
@@ -48,20 +46,6 @@ fn add_tables(cells: &mut CellMap, tables: Vec<TableHeld>) -> Result<(), OutOfMe
         cells.merge(held.file.cells)?;
     }
     Ok(())
-}
-
-/// How many entries of segments count.
-pub(crate) fn count_entries(segments: &[SegmentHeld]) -> Result<u64, OutOfMemory>
-    ensures { IfOk result (λ n. n ≡ length (flat_map payloads_of segments.now)) }
-{
-    let mut count: u64 = 0;
-    for held in segments {
-        let Some(sum) = count.checked_add(held.entries.len() as u64) else {
-            return Err(OutOfMemory);
-        };
-        count = sum;
-    }
-    Ok(count)
 }
 
 /// What a folder restores to that has these table files and so many names of segments and of table

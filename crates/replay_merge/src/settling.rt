@@ -1,10 +1,10 @@
 //! A folder's segments are read and merged, and what is answered first is decided. Nothing is
 //! answered before all threads have ended.
-ghost use Rattle.std.specs.Prelude.{◌≡◌, ◌≤◌, IfSome};
+ghost use Rattle.std.specs.Prelude.{◌≤◌, ℕ, IfSome};
 ghost use Rattle.clog_crash.specs.Folder.{IsHeld};
 ghost use Rattle.clog_folder.specs.Listing.{AreRows, IsSegmentAt, segment_cmp};
 ghost use Rattle.clog_folder.specs.Passing.{IsUntouched, TellsEach};
-ghost use Rattle.replay_merge.specs.Settling.{ChecksPiped, IsFirstFault, PipesFolder};
+ghost use Rattle.replay_merge.specs.Settling.{ChecksPiped, IsFirstFault, PipesFolder, SettlesTo};
 
 use crate::piped::{Entry, Piped};
 use crate::source::pipe_places;
@@ -50,12 +50,34 @@ fn checked(piped: Option<Piped>, ignore: bool) -> Result<Piped, OpenFault>
     Err(OpenFault::Damaged(segment_name(refused.id), refused.start, cause))
 }
 
+/// What is answered of segments that were read so far, and of what was taken of them. Where
+/// refusals stand together, the first of these is answered: a fault of the disk; want of memory;
+/// without `ignore` the least refused payload by position; the place at which reading stopped.
+pub(crate) fn settle(
+    streamed: Result<(), OpenFault>,
+    piped: Option<Piped>,
+    ignore: bool,
+) -> Result<Piped, OpenFault>
+    ensures settles { SettlesTo ignore streamed piped result }
+    ensures quiet { (faults now : ℕ) → TellsEach faults now streamed → TellsEach faults now result }
+{
+    if let Some(fault) = first_fault(&streamed) {
+        return Err(fault);
+    }
+    // Matches in place of `?`, since the exits speak of what was read.
+    let piped = match checked(piped, ignore) {
+        Ok(piped) => piped,
+        Err(fault) => return Err(fault),
+    };
+    match streamed {
+        Ok(()) => Ok(piped),
+        Err(fault) => Err(fault),
+    }
+}
+
 /// Reads the segments of these names, of which each is there, and decodes and merges their entries
 /// by so many workers beside it, and by the caller where the queue is full.
-///
-/// Where refusals stand together, the first of these is answered: a fault of the disk; want of
-/// memory; the least refused payload by position; the place at which reading stopped. Each entry
-/// that was put stands in front of that place.
+/// Each entry that was put stands in front of the place at which reading stopped.
 pub(crate) fn pipe_folder<R: Threads + Wait + Sync, D: Disk, G: Gate + Sync>(
     rt: &R,
     alloc: Global,
@@ -79,16 +101,5 @@ pub(crate) fn pipe_folder<R: Threads + Wait + Sync, D: Disk, G: Gate + Sync>(
     let (streamed, piped) = pipe_places(
         rt, alloc, queue, tables, disk, names, workers, ignore, gate,
     );
-    if let Some(fault) = first_fault(&streamed) {
-        return Err(fault);
-    }
-    // Matches in place of `?`, since the exits speak of what was read.
-    let piped = match checked(piped, ignore) {
-        Ok(piped) => piped,
-        Err(fault) => return Err(fault),
-    };
-    match streamed {
-        Ok(()) => Ok(piped),
-        Err(fault) => Err(fault),
-    }
+    settle(streamed, piped, ignore)
 }

@@ -3,6 +3,7 @@ use Rattle.clog_disk.specs.declared.change.Change.{Change}
 use Rattle.clog_disk.specs.Files.{Files, SameTold}
 use Rattle.clog_disk.proofs.Moments.{later_still}
 use Rattle.clog_disk.proofs.Telling.{same_told_self}
+use Rattle.clog_segments.specs.Live.{IsLogOf}
 use Rattle.clog_segments.specs.Opened.{RecoversAll, RecoversFirst}
 use Rattle.clog_segments.proofs.Changed.{only_puts, put_none}
 use Rattle.clog_segments.proofs.Kept.{if_told}
@@ -46,6 +47,15 @@ returns-in-Err-clause-any_moment g c first is lasts =
     looks_keep c.look.ensures.keeps g.met.D.Disk.only_now first lasts
 
 -- ---- it is
+
+pub recover_folder-requires-clause-log : goal.recover_folder-requires-clause-log
+recover_folder-requires-clause-log g c =
+    let known = c.in-Ok.known in
+    let looks = c.in-Ok.ensures.looks in (
+      looks.tables,
+      subst (λ (o : Option Files). IsLogOf o looks.tables known.cells known.top)
+          (sym c.look.ensures.keeps.same.files) looks.log,
+    )
 
 pub returns-in-Ok-recover_folder-clause-told : goal.returns-in-Ok-recover_folder-clause-told
 returns-in-Ok-recover_folder-clause-told g c =
@@ -147,8 +157,7 @@ returns-in-Ok-recover_folder-clause-lasts g c first is lasts =
 
 pub returns-in-Ok-recover_folder-clause-restored : goal.returns-in-Ok-recover_folder-clause-restored
 returns-in-Ok-recover_folder-clause-restored g c first is =
-    has_rows first (g.D.Disk.files c.args.disk.now) is c.in-Ok.known.folder
-    c.in-Ok.ensures.looks.held c.in-Ok-recover_folder.ensures.live
+    has_rows first is c.in-Ok.ensures.looks.log
 
 pub returns-clause-opens : goal.returns-clause-opens
 returns-clause-opens g c =

@@ -17,7 +17,7 @@ use Rattle.clog_segments.proofs.Filed.{
   settled_with,
   still_by,
 }
-use Rattle.clog_segments.proofs.Live.{from_start}
+use Rattle.replay_merge.proofs.Tops.{from_start}
 use Rattle.clog_segments.proofs.ComesFrom.{still_from}
 use Rattle.clog_segments.proofs.PutTables.{none_from, one_from}
 use Rattle.clog_segments.proofs.recovery_files.put_table_of.Goals as goal
