@@ -10,4 +10,11 @@ expect 'three rounds' 0 "$(numbers 3 3668339987 6)" '' "$pinsilver" orders 2 3
 expect '63 readers, 100,000 rounds' 0 "$(numbers 100000 1712305312 6300000)" '' \
     "$pinsilver" orders 63 100000
 expect 'no reader' 1 'error 1: usage' '' "$program" orders 0 3
+if [ -c /dev/full ]; then
+    expect 'output is full' 5 '' \
+        'pinsilver: write standard output: No space left on device' \
+        sh -c '"$0" orders 2 3 >/dev/full' "$program"
+else
+    skipped 'no /dev/full'
+fi
 that 'no folder is made' test ! -e commitlog
