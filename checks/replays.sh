@@ -47,8 +47,8 @@ cp "commitlog/$name" whole
 shrink() { truncate -s 65536 "commitlog/$name"; }
 grow() { echo 'no marker' >>"commitlog/$name"; }
 
-# meanwhile CHANGE WORD..: a replay that stops before its second piece; then the file is changed, and
-# the replay goes on.
+# meanwhile CHANGE WORD..: a run that stops before its second piece; then the file is changed, and the
+# run goes on.
 meanwhile() {
     change=$1
     shift
@@ -74,5 +74,8 @@ expect 'a file that shrinks below another segment' 7 "error 7: $name at 65536: S
     meanwhile shrink replay
 expect 'the same, read past it' 0 "$(counts 2 0 33 33 0)
 **" '' meanwhile shrink replay --ignore-errors
+expect 'the same, by a recovery' 7 "error 7: $name at 65536: Short" '' \
+    meanwhile shrink apply </dev/null
+that 'the segment is left' test "$(wc -c <"commitlog/$name")" -eq 65536
 expect 'a file that grows below another segment' 0 "$(counts 2 0 100 100 0)
 **" '' meanwhile grow replay

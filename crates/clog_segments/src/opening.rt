@@ -118,11 +118,15 @@ fn look<D: Disk>(alloc: Global, disk: &mut D, moment: u64) -> Result<Known, Open
 /// which its log goes on: the moment, or one more than the greatest id that the folder named. The
 /// moment is one in milliseconds.
 ///
-/// Table files are read first, then segments in pieces of at most 64 KiB, each refused where it is
-/// the first that is bad; then the limits on sequences and on ids are looked at. Recovery puts files
-/// of new names, each with the newest cells of one table that the log restores, one for each table
-/// that has such cells, in the order of tables; then it removes the segments in the order of their
-/// ids. It changes nothing else.
+/// Table files are read first, up to the first that is bad, and then segments in pieces of at most
+/// 64 KiB, up to the first that is torn or too long. Where refusals of segments stand together, the
+/// first of these is answered: a fault of the disk; want of memory; the first refused payload by
+/// position; the place at which reading stopped. Then the limits on sequences and on ids are looked
+/// at.
+///
+/// Recovery puts files of new names, each with the newest cells of one table that the log restores,
+/// one for each table that has such cells, in the order of tables; then it removes the segments in
+/// the order of their ids. It changes nothing else.
 ///
 /// - `Disk`: only where the disk's count of faults has risen in this call. Else it stays.
 /// - `BadTable`, `Damaged`, `Limit`: exactly where the folder is so. The disk is then as it was.

@@ -57,8 +57,11 @@ pub fn segments_on<D: Disk>(alloc: Global, disk: &mut D) -> Result<Vec<SegmentRe
         bail!("no memory for the names of segments");
     };
     let mut segments = Vec::new(alloc);
-    for (place, name) in places {
-        segments.push(segment_on(alloc, disk, place.0, &name)?)?;
+    for ((id, version), name) in places {
+        if version != 6 {
+            bail!("segment {id} is of version {version}");
+        }
+        segments.push(segment_on(alloc, disk, id, &name)?)?;
     }
     Ok(segments)
 }

@@ -25,8 +25,8 @@ pub struct Logged {
 }
 
 /// Reads the segments of these names, of which each is there, in pieces of at most 64 KiB, and
-/// merges their entries as they come. So memory is wanted for cells, a piece and an entry, and not
-/// for the segments. It writes nothing.
+/// merges their entries as they come. So memory is wanted for cells, for a piece and the entries
+/// that end in it, and not for the segments. It writes nothing.
 ///
 /// Where refusals stand together, the first of these is answered: a fault of the disk; want of
 /// memory; the first refused payload by position; the place at which reading stopped.

@@ -23,7 +23,7 @@ use std::thread::Threads;
 /// entries into a queue of 256 places, from which the workers take them; where the queue is full,
 /// it takes an entry itself. A worker for which no thread can be started is run by the caller
 /// behind the last entry. So memory is wanted for cells, table files, a piece and the entries that
-/// stand in the queue, and not for the segments.
+/// end in it, and those that stand in the queue, and not for the segments.
 ///
 /// The gate is told, of each worker as a writer of its number: `Started` before its first entry,
 /// `Deposited` after each entry that it has merged, and `Returned` at its end. Of an entry that the
