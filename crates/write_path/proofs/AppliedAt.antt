@@ -182,6 +182,13 @@ module _ {K : Type 0} (k : ℕ) (s : Deposited K) where
         memtable = memtable;
       }
 
+  -- a table that is none of the write's changes nothing
+  pub applied_untouched : touches s.tables k ≡ false → IsAppliedBelow k s → IsAppliedBelow (suc k) s
+  applied_untouched none applied t low touched = dite (ℕ_discrete t k)
+      (λ same. absurd (false≢true (sym none
+      ∙ subst (λ (n : ℕ). IsTrue (touches s.tables n)) same touched)))
+      (λ apart. applied t (omega arith) touched)
+
   -- what was put there is of no later table
   pub unapplied_past : (u : Deposited K) (m : ℕ) → u.end.0 ≡ s.end.0
       → (hands_of u.member).applied

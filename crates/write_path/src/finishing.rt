@@ -97,8 +97,7 @@ impl<K: Keeper, A: Allocator> WritePath<K, A> {
         unreachable!()
     }
 
-    // At one table: a write of the table is taken by a memtable, as the gate is told, and puts its
-    // updates there.
+    // At one table of the write: a memtable takes it, as the gate is told, and gets its updates.
     fn place_at<G: Gate>(
         &self,
         seat: Deposited<K>,
@@ -107,7 +106,8 @@ impl<K: Keeper, A: Allocator> WritePath<K, A> {
         gate: &G,
     ) -> Deposited<K>
         requires table { IsOf self.now.table.table.shared.table_id self.now.table.size seat.member }
-        requires there { table < self.now.table.size.tables }
+        requires there { (table < self.now.table.size.tables)
+            × IsTrue (touches seat.tables table) }
         requires untried { IsUntriedFrom table seat }
         requires holds { HoldsUpdates seat prepared.old }
         requires unapplied { IsUnappliedFrom table seat }
@@ -118,9 +118,6 @@ impl<K: Keeper, A: Allocator> WritePath<K, A> {
         ensures holds { HoldsUpdates result prepared.new }
         ensures unapplied { IsUnappliedFrom (suc table) result }
     {
-        if !touches(seat.tables, table) {
-            return seat;
-        }
         let mut seat = seat;
         let first = self.oldest(&mut seat, Table(table));
         let (seat, memtable) = self.place_from(seat, Table(table), first);
@@ -149,6 +146,10 @@ impl<K: Keeper, A: Allocator> WritePath<K, A> {
         let mut seat = seat;
         let mut prepared = prepared;
         for table in 0..self.table.size().tables as u8 {
+            // A seat is moved on only where there is something to be done.
+            if !touches(seat.tables, table) {
+                continue;
+            }
             seat = self.place_at(seat, &mut prepared, table, gate);
         }
         self.finish(seat)

@@ -1,4 +1,4 @@
-use Rattle.std.proofs.Common.{◌≡◌, ℕ, suc, ◌+◌, Some, ap, ◌∙◌, subst, arith}
+use Rattle.std.proofs.Common.{◌≡◌, ℕ, suc, ◌+◌, Some, sym, ap, ◌∙◌, subst, arith}
 use Rattle.clog_base.specs.declared.position.Key.{Key}
 use Rattle.op_core.specs.declared.count.Order.TheVariants.{Write}
 use Rattle.path_core.specs.declared.event.Carried.TheVariants.{Applied}
@@ -6,7 +6,12 @@ use Rattle.path_core.specs.declared.event.Event.TheVariants.{Close}
 use Rattle.path_rule.specs.Calls.{Did}
 use Rattle.write_path.specs.Applies.{IsAppliedBelow, IsUnappliedFrom}
 use Rattle.write_path.specs.Ends.{IsUntriedFrom}
-use Rattle.write_path.proofs.AppliedAt.{are_applied, still_itself, still_then}
+use Rattle.write_path.proofs.AppliedAt.{
+  applied_untouched,
+  are_applied,
+  still_itself,
+  still_then,
+}
 use Rattle.write_path.proofs.seats.WritePath.end_write.Goals as goal
 
 pub loop-table-init : goal.loop-table-init
@@ -17,6 +22,18 @@ loop-table-init g c = let w = c.args.self.now.table in record {
   holds = c.requires.holds;
   unapplied = c.requires.unapplied;
 }
+
+pub loop-table-preserved-then-not-touches : goal.loop-table-preserved-then-not-touches
+loop-table-preserved-then-not-touches g c =
+    let s = c.loop-table.seat in let I = c.loop-table.invariant in
+    let up : suc c.loop-table.table ≡ c.loop-table.table + 1 = omega arith in record {
+      same = I.same;
+      applied = subst (λ k. IsAppliedBelow k s) up (applied_untouched c.loop-table.table s
+          (sym c.touches.ensures ∙ c.if-not-touches.true) I.applied);
+      untried = λ t low. I.untried t (omega (arith, low));
+      holds = I.holds;
+      unapplied = λ a h is. let low = I.unapplied a h is in omega (arith, low);
+    }
 
 pub loop-table-preserved : goal.loop-table-preserved
 loop-table-preserved g c =

@@ -5,15 +5,10 @@ use Rattle.write_path.proofs.AppliedAt.{
   placed_still,
   placed_unapplied,
   placed_untried,
-  still_itself,
   unapplied_still,
 }
 use Rattle.write_path.proofs.PlacedAt.{same_then}
 use Rattle.write_path.proofs.seats.WritePath.place_at.Goals as goal
-
-pub returns-then-not-touches-clause-same : goal.returns-then-not-touches-clause-same
-returns-then-not-touches-clause-same g c = let w = c.args.self.now.table in
-    still_itself w.table.shared.table_id w.size c.args.seat c.requires.table
 
 pub apply-requires-clause-holds : goal.apply-requires-clause-holds
 apply-requires-clause-holds g c =
