@@ -33,9 +33,9 @@ use Rattle.std.proofs.lemmas.List.{take_all, take_at}
 use Rattle.std.specs.Prelude.{option_map, unwrap_or, is_some, IsSome}
 use Rattle.std.specs.FinMap as finmap
 use Rattle.clog_disk.specs.Files.{bytes_at}
-use Rattle.clog_disk.specs.Images.{LastsAs, Within, Tears, Torn}
+use Rattle.clog_disk.specs.Images.{LastsAll, LastsAs, Within, Tears, Torn}
 use Rattle.clog_disk.specs.Stored.{Stored, may_leave, grown_at, settled}
-use Rattle.clog_disk.specs.InMemory.{files_of, state_of, with_file}
+use Rattle.clog_disk.specs.InMemory.{AllSettled, files_of, state_of, with_file}
 use Rattle.clog_disk.specs.InMemoryLaws.{get-files_of}
 use Rattle.clog_disk.proofs.Named.{same_or_other, same_files}
 use Rattle.clog_disk.proofs.States.{with_here, with_there, now_holds, absent}
@@ -205,6 +205,29 @@ module _ (es fs : Entries) (name : List ℕ)
           subst (may_leave (state_of es other)) (sym is) (as_read (state_of es other))
       | inr apart ↦ subst (λ (o : Option Stored). may_leave o left) (stands_there other apart) now
     ]
+
+-- all files were made to last
+module _ (es fs : Entries) (all : AllSettled (state_of es) (state_of fs)) where
+  leaves_read : (name : List ℕ) (left : Option (List ℕ)) → may_leave (state_of fs name) left
+      → left ≡ bytes_in (state_of es name)
+  leaves_read name left now =
+      settled_leaves (state_of es name) left (
+      subst (λ (o : Option Stored). may_leave o left) (all name) now
+      )
+
+  pub all_read : files_of fs ≡ files_of es
+  all_read = same_files _ _ (λ name.
+      get-files_of fs name ∙ ap bytes_in (all name) ∙ settled_reads (state_of es name)
+      ∙ sym (get-files_of es name))
+
+  pub all_last : LastsAll (files_of es) (λ n. may_leave (state_of fs n))
+  all_last name left now = leaves_read name left now ∙ sym (get-files_of es name)
+
+  pub all_within : Within (λ n. may_leave (state_of es n)) (λ n. may_leave (state_of fs n))
+  all_within name left now =
+      subst (may_leave (state_of es name)) (sym (leaves_read name left now)) (
+      as_read (state_of es name)
+      )
 
 none_there : (file : Option Stored) → is_some file ≡ false → file ≡ None
 none_there None e = refl

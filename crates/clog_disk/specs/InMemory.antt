@@ -27,9 +27,9 @@ use Rattle.std.specs.Map.{lookup}
 use Rattle.std.specs.Ordering.{nat_cmp}
 use Rattle.std.specs.Cmp.Lexicographic.{slice_cmp}
 use Rattle.clog_disk.specs.declared.stored.Undo.{Undo}
-use Rattle.clog_disk.specs.declared.stored.Undo.TheVariants.{Cut, Absent, Was}
+use Rattle.clog_disk.specs.declared.stored.Undo.TheVariants.{Cut, Absent, Was, Were}
 use Rattle.clog_disk.specs.Files.{Files}
-use Rattle.clog_disk.specs.Stored.{Stored, may_leave, cut_to}
+use Rattle.clog_disk.specs.Stored.{Stored, may_leave, cut_to, settled}
 
 abbrev pub files_of : List (List ℕ × Stored) → Files
 files_of entries = from_entries (map (λ entry. (entry.0, entry.1.bytes)) entries)
@@ -58,6 +58,7 @@ undone (Cut name was) state =
     with_file state name (cut_to (state name) was.size was.synced was.sure)
 undone (Absent name) state = with_file state name None
 undone (Was name file) state = with_file state name (Some file)
+undone (Were files) state = state_of files.entries
 
 -- the state before these calls, of which the first is the earliest
 abbrev pub back : List Undo → (List ℕ → Option Stored) → List ℕ → Option Stored
@@ -82,6 +83,10 @@ LastsWhole file = (left : Option (List ℕ)) → may_leave file left
 -- all lasted at a moment
 abbrev pub LastedAt : (List ℕ → Option Stored) → List Undo → ℕ → Type 0
 LastedAt state undos t = (name : List ℕ) → LastsWhole (back (drop t undos) state name)
+
+-- all of each file lasts
+abbrev pub AllSettled : (List ℕ → Option Stored) → (List ℕ → Option Stored) → Type 0
+AllSettled old new = (name : List ℕ) → new name ≡ option_map settled (old name)
 
 -- one more call was noted, or none, and what was noted leads back
 abbrev pub Steps : (List ℕ → Option Stored) → (List ℕ → Option Stored) → List Undo → List Undo

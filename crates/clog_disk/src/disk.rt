@@ -203,6 +203,22 @@ pub trait Disk {
         ensures cause { HasDiskCause (faults self.old) (faults self.new) result }
         ensures reliable { reliable self.old → StaysReliable (reliable self.new) result };
 
+    /// Makes all files lasting, and their names: a crash then leaves just what is read. After a
+    /// refusal some may last that did not.
+    fn settle(&mut self) -> Result<(), DiskFault>
+        ensures lasts { OnOk result (IfSome (files self.old) (λ f. LastsAll f
+            (leaves self.new))) }
+        ensures same { files self.new ≡ files self.old }
+        ensures quiet { changes self.new ≡ changes self.old }
+        ensures crash { Within (leaves self.old) (leaves self.new) }
+        ensures refused { result ≢ Err failed → OnErr result (SameImages (leaves self.old)
+            (leaves self.new)) }
+        ensures time { Elapses moment since leaves read_at lasted_at self.old
+            self.new }
+        ensures found { result ≢ Err no_file }
+        ensures cause { HasDiskCause (faults self.old) (faults self.new) result }
+        ensures reliable { reliable self.old → StaysReliable (reliable self.new) result };
+
     /// Puts a file in place with these bytes, lasting, over what stands there. A crash meanwhile,
     /// and `Failed`, leave the name as it was or with all of the bytes.
     fn publish(&mut self, name: &Name, bytes: &[u8]) -> Result<(), DiskFault>

@@ -17,11 +17,13 @@ mod trying;
 
 use crate::disk::{Disk, DiskFault};
 use crate::hold::Hold;
-use crate::real_files::{FOLDER, path_of};
+use crate::listed::Listed;
+use crate::real_files::{FOLDER, Place, not_regular, path_of};
 use clog_base::{Name, Rows};
 use std::alloc::Global;
 use std::fs::File;
 use std::io;
+use std::io::ErrorKind;
 use std::rt::Files;
 
 /// A file that was opened to be read.
@@ -42,6 +44,23 @@ pub struct FolderDisk<R: Files<File = File> + AllocGlobal + Clone + Drop> {
     faults: u64,
     /// The last call that failed and what the system said, if there was memory for the text.
     refusal: Option<String>,
+}
+
+/// A name that was listed, and its path.
+#[derive(Drop)]
+struct Listing {
+    name: Name,
+    path: String,
+}
+
+// Names with their paths, before the system is asked for anything.
+fn with_paths(alloc: Global, names: &[Name]) -> io::Result<Vec<Listing>> {
+    let mut listed = Vec::new(alloc);
+    for name in names {
+        let path = path_of(alloc, name)?;
+        listed.push(Listing { name: *name, path })?;
+    }
+    Ok(listed)
 }
 
 // Which call the system has refused, and what it said.
@@ -113,6 +132,31 @@ impl<R: Files<File = File> + AllocGlobal + Clone + Drop> FolderDisk<R> {
             }
         }
     }
+
+    // The same of what changes nothing: want of memory is answered as such, and not counted.
+    fn looked<T>(
+        &mut self,
+        call: &str,
+        name: Option<&Name>,
+        outcome: io::Result<T>,
+    ) -> Result<T, DiskFault>
+        ensures cause { HasDiskCause self.old.faults self.new.faults result }
+        ensures found { result ≢ Err DiskFault.NoSuchFile }
+    {
+        match outcome {
+            Err(error) if error.kind() == ErrorKind::OutOfMemory => Err(DiskFault::OutOfMemory),
+            outcome => self.counted(call, name, outcome),
+        }
+    }
+
+    // The path of a name, before the system is asked for anything.
+    fn path(&mut self, call: &str, name: &Name) -> Result<String, DiskFault>
+        ensures cause { HasDiskCause self.old.faults self.new.faults result }
+        ensures found { result ≢ Err DiskFault.NoSuchFile }
+    {
+        let path = path_of(self.rt.alloc(), name);
+        self.looked(call, Some(name), path)
+    }
 }
 
 impl<R: Files<File = File> + AllocGlobal + Clone + Drop> Disk for FolderDisk<R> {
@@ -135,45 +179,82 @@ impl<R: Files<File = File> + AllocGlobal + Clone + Drop> Disk for FolderDisk<R> 
     ghost faults = { λ d. d.faults };
 
     fn list(&mut self) -> Result<Rows<Name>, DiskFault> {
-        let names = self.try_list();
-        Ok(Rows::new(self.counted("list", None, names)?))
+        let listed = self.try_list();
+        match self.looked("list", None, listed)? {
+            Listed::Names(names) => Ok(Rows::new(names)),
+            Listed::Irregular(name) => self.counted("list", Some(&name), Err(not_regular())),
+        }
     }
 
     fn len(&mut self, name: &Name) -> Result<u64, DiskFault> {
-        let size = self.try_len(name);
-        self.counted("measure", Some(name), size)
+        let path = self.path("measure", name)?;
+        let path = path.as_str();
+        let size = self.try_len(Place { name, path });
+        self.looked("measure", Some(name), size)
     }
 
     fn read(&mut self, name: &Name, at: u64, count: u32) -> Result<Vec<u8>, DiskFault> {
-        let bytes = self.try_read(name, at, count);
-        let mut bytes = self.counted("read", Some(name), bytes)?;
+        let path = self.path("read", name)?;
+        let path = path.as_str();
+        let bytes = self.try_read(Place { name, path }, at, count);
+        let mut bytes = self.looked("read", Some(name), bytes)?;
         // No clause of the system's reader says that it stops there.
         bytes.truncate(count as usize);
         Ok(bytes)
     }
 
     fn append_at(&mut self, name: &Name, at: u64, bytes: &[u8]) -> Result<(), DiskFault> {
-        let done = self.try_append(name, at, bytes);
+        let path = self.path("append", name)?;
+        let path = path.as_str();
+        let done = self.try_append(Place { name, path }, at, bytes);
         self.counted("append", Some(name), done)
     }
 
     fn sync(&mut self, name: &Name) -> Result<(), DiskFault> {
-        let done = self.try_sync(name);
+        let path = self.path("sync", name)?;
+        let path = path.as_str();
+        let done = self.try_sync(Place { name, path });
         self.counted("sync", Some(name), done)
     }
 
+    fn settle(&mut self) -> Result<(), DiskFault> {
+        let names = self.list()?;
+        let listed = with_paths(self.rt.alloc(), names.as_slice());
+        for Listing { name, path } in &self.looked("sync", None, listed)? {
+            let path = path.as_str();
+            let done = self.try_sync_file(Place { name, path });
+            self.counted("sync", Some(name), done)?;
+        }
+        let done = self.try_sync_names();
+        self.counted("sync", None, done)
+    }
+
     fn publish(&mut self, name: &Name, bytes: &[u8]) -> Result<(), DiskFault> {
-        let done = self.try_publish(name, bytes);
+        let path = self.path("publish", name)?;
+        let path = path.as_str();
+        let done = self.try_publish(Place { name, path }, bytes);
         self.counted("publish", Some(name), done)
     }
 
     fn remove(&mut self, name: &Name) -> Result<(), DiskFault> {
-        let done = self.try_remove(name);
+        let path = self.path("remove", name)?;
+        let path = path.as_str();
+        let done = self.try_remove(Place { name, path });
         self.counted("remove", Some(name), done)
     }
 
     fn link(&mut self, name: &Name, second: &Name) -> Result<(), DiskFault> {
-        let done = self.try_link(name, second);
+        let path = self.path("link", name)?;
+        let place = Place {
+            name,
+            path: path.as_str(),
+        };
+        let path = self.path("link", second)?;
+        let second = Place {
+            name: second,
+            path: path.as_str(),
+        };
+        let done = self.try_link(place, second);
         self.counted("link", Some(name), done)
     }
 

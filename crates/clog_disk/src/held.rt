@@ -8,7 +8,7 @@
 //!   not write: after one, nothing is trusted again.
 //! - A file that is put in place is written whole under another name and synced before it takes its
 //!   own, so that a crash leaves what stood there or all of it.
-use crate::real_files::{append, open_end, open_to_read, open_to_sync, remove_regular};
+use crate::real_files::{Place, append, open_end, open_to_read, remove_regular};
 use crate::unfinished::{give_name, new_unfinished, remove_unfinished};
 use clog_base::Name;
 use std::fs::File;
@@ -85,30 +85,30 @@ impl Held {
     }
 
     // Lets go of a file's handle, where there is one, before the name stands for something else.
-    fn let_go_of(&mut self, name: &Name) -> io::Result<()> {
+    fn let_go_of(&mut self, place: Place<'_>) -> io::Result<()> {
         match &self.written {
-            Some(written) if written.name == *name => self.let_go(),
+            Some(written) if written.name == *place.name => self.let_go(),
             _ => Ok(()),
         }
     }
 
     // The file opened to be appended to.
-    fn file_to_append<R: Files<File = File> + AllocGlobal>(
+    fn file_to_append<R: Files<File = File>>(
         &mut self,
         rt: &R,
-        name: &Name,
+        place: Place<'_>,
         at: u64,
     ) -> io::Result<Written> {
         match self.written.take() {
-            Some(written) if written.name == *name => return Ok(written),
+            Some(written) if written.name == *place.name => return Ok(written),
             other => self.written = other,
         }
         self.let_go()?;
         // At 0 the file may be made, and its name does not last before the folder is synced.
         self.names_last &= at != 0;
-        let opened = open_end(rt, name, at)?;
+        let opened = open_end(rt, place.path, at)?;
         Ok(Written {
-            name: *name,
+            name: *place.name,
             // Its number is above those of the standard streams: what goes to a closed stream
             // never lands in the file.
             file: opened.try_clone()?,
@@ -117,37 +117,38 @@ impl Held {
     }
 
     /// Puts bytes at the end of a file, which must be at `at`. At 0 an absent file is made.
-    pub(crate) fn append<R: Files<File = File> + AllocGlobal>(
+    pub(crate) fn append<R: Files<File = File>>(
         &mut self,
         rt: &R,
-        name: &Name,
+        place: Place<'_>,
         at: u64,
         bytes: &[u8],
     ) -> io::Result<()> {
-        let mut written = self.file_to_append(rt, name, at)?;
+        let mut written = self.file_to_append(rt, place, at)?;
         written.is_synced = false;
         let done = append(&mut written.file, at, bytes);
         self.written = Some(written);
         done
     }
 
-    fn sync_file<R: Files<File = File> + AllocGlobal>(
+    /// Makes a file's bytes last.
+    pub(crate) fn sync_file<R: Files<File = File>>(
         &mut self,
         rt: &R,
-        name: &Name,
+        place: Place<'_>,
     ) -> io::Result<()> {
         match &mut self.written {
-            Some(written) if written.name == *name => {
+            Some(written) if written.name == *place.name => {
                 settle(&mut self.is_broken, &written.file)?;
                 written.is_synced = true;
                 Ok(())
             }
-            _ => settle(&mut self.is_broken, &open_to_sync(rt, name)?),
+            _ => settle(&mut self.is_broken, &open_to_read(rt, place.path)?),
         }
     }
 
-    // Makes the folder's names last, and the folder's own.
-    fn sync_names(&mut self) -> io::Result<()> {
+    /// Makes the folder's names last, and the folder's own.
+    pub(crate) fn sync_names(&mut self) -> io::Result<()> {
         if !self.names_last {
             settle(&mut self.is_broken, &self.folder)?;
             self.names_last = true;
@@ -159,48 +160,48 @@ impl Held {
     }
 
     /// Makes a file last, with its name and the folder's.
-    pub(crate) fn sync<R: Files<File = File> + AllocGlobal>(
+    pub(crate) fn sync<R: Files<File = File>>(
         &mut self,
         rt: &R,
-        name: &Name,
+        place: Place<'_>,
     ) -> io::Result<()> {
-        self.sync_file(rt, name)?;
+        self.sync_file(rt, place)?;
         self.sync_names()
     }
 
     // Gives the unfinished file, which holds all that it is to hold, its name.
-    fn finish<R: Files<File = File> + AllocGlobal>(
+    fn finish<R: Files<File = File>>(
         &mut self,
         rt: &R,
         unfinished: &File,
-        name: &Name,
+        place: Place<'_>,
     ) -> io::Result<()> {
         settle(&mut self.is_broken, unfinished)?;
-        self.let_go_of(name)?;
+        self.let_go_of(place)?;
         self.names_last = false;
-        give_name(rt, name)?;
+        give_name(rt, place.path)?;
         self.sync_names()
     }
 
-    fn try_publish<R: Files<File = File> + AllocGlobal>(
+    fn try_publish<R: Files<File = File>>(
         &mut self,
         rt: &R,
-        name: &Name,
+        place: Place<'_>,
         bytes: &[u8],
     ) -> io::Result<()> {
-        let mut unfinished = new_unfinished(rt, name)?;
+        let mut unfinished = new_unfinished(rt, place.path)?;
         unfinished.write_all(bytes)?;
-        self.finish(rt, &unfinished, name)
+        self.finish(rt, &unfinished, place)
     }
 
     /// Puts a file in place with these bytes, lasting, with its name and the folder's.
-    pub(crate) fn publish<R: Files<File = File> + AllocGlobal>(
+    pub(crate) fn publish<R: Files<File = File>>(
         &mut self,
         rt: &R,
-        name: &Name,
+        place: Place<'_>,
         bytes: &[u8],
     ) -> io::Result<()> {
-        let done = self.try_publish(rt, name, bytes);
+        let done = self.try_publish(rt, place, bytes);
         if done.is_err() {
             // On a full device it would take the room that others need.
             remove_unfinished(rt);
@@ -208,26 +209,26 @@ impl Held {
         done
     }
 
-    fn try_link<R: Files<File = File> + AllocGlobal>(
+    fn try_link<R: Files<File = File>>(
         &mut self,
         rt: &R,
-        name: &Name,
-        second: &Name,
+        place: Place<'_>,
+        second: Place<'_>,
     ) -> io::Result<()> {
-        let mut source = open_to_read(rt, name)?;
-        let mut unfinished = new_unfinished(rt, second)?;
+        let mut source = open_to_read(rt, place.path)?;
+        let mut unfinished = new_unfinished(rt, second.path)?;
         io::copy(&mut source, &mut unfinished)?;
         self.finish(rt, &unfinished, second)
     }
 
     /// Puts a copy of a file in place, lasting, with its name and the folder's.
-    pub(crate) fn link<R: Files<File = File> + AllocGlobal>(
+    pub(crate) fn link<R: Files<File = File>>(
         &mut self,
         rt: &R,
-        name: &Name,
-        second: &Name,
+        place: Place<'_>,
+        second: Place<'_>,
     ) -> io::Result<()> {
-        let done = self.try_link(rt, name, second);
+        let done = self.try_link(rt, place, second);
         if done.is_err() {
             remove_unfinished(rt);
         }
@@ -235,17 +236,17 @@ impl Held {
     }
 
     /// Removes a file, so that it stays gone. All other names last before it goes.
-    pub(crate) fn remove<R: Files<File = File> + AllocGlobal>(
+    pub(crate) fn remove<R: Files<File = File>>(
         &mut self,
         rt: &R,
-        name: &Name,
+        place: Place<'_>,
     ) -> io::Result<()> {
-        self.let_go_of(name)?;
+        self.let_go_of(place)?;
         // A file that stands for this one may have got its name by a program that was killed before
         // the name lasted.
         self.sync_names()?;
         self.names_last = false;
-        remove_regular(rt, name)?;
+        remove_regular(rt, place.path)?;
         self.sync_names()
     }
 }

@@ -1,7 +1,8 @@
 //! How a disk stands to its folder: whether it only reads, writes and holds the lock, or is
 //! refused. Each function hands the system's refusals on.
 use crate::held::Held;
-use crate::real_files::{make_folder, names_in_folder, open_above, open_folder};
+use crate::listed::{Listed, Others, list_once};
+use crate::real_files::{make_folder, open_above, open_folder};
 use std::fs::{File, TryLockError};
 use std::io;
 use std::io::ErrorKind;
@@ -66,10 +67,9 @@ fn hold_made<R: Files<File = File> + AllocGlobal + Clone + Drop>(
 ) -> io::Result<Hold> {
     let hold = locked(open_folder(rt)?, Some(above))?;
     // Another program may have come and gone before the lock.
-    if names_in_folder(rt)?.is_empty() {
-        Ok(hold)
-    } else {
-        Ok(made_meanwhile())
+    match list_once(rt, Others::AreLockedOut)? {
+        Listed::Names(names) if names.is_empty() => Ok(hold),
+        _ => Ok(made_meanwhile()),
     }
 }
 

@@ -7,6 +7,7 @@ mod disk;
 mod folder;
 mod held;
 mod hold;
+mod listed;
 mod memory;
 mod moved;
 mod real_files;

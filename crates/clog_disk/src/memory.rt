@@ -44,9 +44,9 @@ impl MemDisk {
     }
 
     /// A disk with no file. `calls` are the numbers of the calls that fail, from 1, ascending:
-    /// counted are the calls of `list`, `len`, `read`, `append_at`, `sync`, `publish`, `remove` and
-    /// `link`, all together and in the order in which they come. A call that fails does nothing but
-    /// count a fault.
+    /// counted are the calls of `list`, `len`, `read`, `append_at`, `sync`, `settle`, `publish`,
+    /// `remove` and `link`, all together and in the order in which they come. A call that fails
+    /// does nothing but count a fault.
     pub fn failing(alloc: Global, calls: Vec<u64>) -> MemDisk
         ensures files { ⟦<MemDisk as Disk>⟧.files result ≡ Some no_files }
         ensures images { (name : List ℕ) → LastsAs (⟦<MemDisk as Disk>⟧.leaves result) name None }

@@ -15,7 +15,7 @@ ghost use Rattle.std.specs.BTreeMap.{keys, IsOrdered};
 ghost use Rattle.std.specs.Ordering.{nat_cmp};
 ghost use Rattle.std.specs.Cmp.Lexicographic.{slice_cmp};
 ghost use Rattle.clog_disk.specs.Stored.{grown, grown_at, made_of, lasting_of, settled};
-ghost use Rattle.clog_disk.specs.InMemory.{state_of, with_file, undo_at, Steps};
+ghost use Rattle.clog_disk.specs.InMemory.{state_of, with_file, undo_at, AllSettled, Steps};
 
 mod past;
 mod sample;
@@ -60,6 +60,8 @@ pub(crate) enum Undo {
     Absent(Name),
     /// This file stood there.
     Was(Name, File),
+    /// These were all files.
+    Were(BTreeMap<Name, File>),
 }
 
 impl File {
@@ -202,6 +204,24 @@ pub(crate) fn settle_file(
 {
     undos.push(undo_of(files, name))?;
     settle_at(files, name);
+    Ok(())
+}
+
+/// Makes all files last, and notes it.
+pub(crate) fn settle_all(
+    alloc: Global,
+    files: &mut BTreeMap<Name, File>,
+    undos: &mut Vec<Undo>,
+) -> Result<(), AllocError>
+    ensures ok { OnOk result (AllSettled (state_of files.old.entries)
+        (state_of files.new.entries)) }
+    ensures err { OnErr result (files.new.entries ≡ files.old.entries) }
+    ensures steps { Steps (state_of files.old.entries) (state_of files.new.entries) undos.old.items
+        undos.new.items }
+{
+    let settled = image_of(alloc, files, &Left::Written)?;
+    undos.push(Undo::Were(files.clone()?))?;
+    *files = settled;
     Ok(())
 }
 

@@ -1,21 +1,19 @@
--- What a crash leaves of a run: over the looks before the opening, the opening, and the lines that
--- are written.
-use Rattle.std.proofs.Common.{ℕ, inl, inr, List, [], take, Option, arith}
+-- What a crash leaves of a run: over the opening of its folder, and the lines that are written.
+use Rattle.std.proofs.Common.{ℕ, inl, inr, ⊎_elim, List, [], take, Option, arith}
 use Rattle.std.specs.Prelude.{Bool, Contains}
 use Rattle.std.specs.List.{flat_map}
 use Rattle.clog_base.proofs.Members.{nothing_there}
 use Rattle.clog_disk.specs.declared.change.Change.{Change}
 use Rattle.clog_disk.specs.Files.{Files, bytes_at}
-use Rattle.clog_disk.specs.Images.{Elapses, IsImage, LastsAll, LeavesOnly, SameImages}
-use Rattle.clog_disk.proofs.Moments.{goes_on, goes_on_by, started, weakened}
+use Rattle.clog_disk.specs.Images.{LeavesOnly}
+use Rattle.clog_disk.proofs.Moments.{goes_on_by, weakened}
 use Rattle.clog_mutation.specs.declared.mutation.Mutation.{Mutation}
 use Rattle.clog_mutation.specs.Payload.{cells_of}
 use Rattle.clog_crash.specs.Covering.{Either}
 use Rattle.clog_crash.specs.Log.{NoChances}
-use Rattle.clog_crash.specs.Readings.{Reading, RestoresIn}
+use Rattle.clog_crash.specs.Readings.{RestoresIn}
 use Rattle.clog_crash.proofs.changes.Covering.{either_same, exactly, merge_then}
-use Rattle.clog_segments.specs.Opened.{KeepsFolder}
-use Rattle.clog_segments.proofs.OpenedWhole.{image_keeps, lasts_on}
+use Rattle.clog_segments.specs.Opened.{KeepsFolder, WasLeftOr}
 use Rattle.clog_closing.specs.Written.{RestoresLines}
 use Rattle.clog_writers.specs.Left.{LeavesShares, said_by}
 use Rattle.clog_engine.specs.Logged.{AddsFirst}
@@ -63,42 +61,27 @@ adds_lines first opened image ms least kept lines =
 
 module _ {D : Type 0} (changes : D → Option (List Change)) (moment : D → ℕ)
     (since : D → ℕ → Files → Type 0)
-    (leaves : D → List ℕ → Option (List ℕ) → Type 0) (read_at : D → ℕ → Option Reading)
-    (lasted_at : D → ℕ → Type 0) where
-  -- while a folder is looked at and then opened, where all of it lasted
-  pub while_opened : (start looked now : D) (first : Files)
-      → ((image : Files) → since start (moment start) image → IsImage (leaves start) image)
-      → LastsAll first (leaves start) → SameImages (leaves start) (leaves looked)
-      → Elapses moment since leaves read_at lasted_at start looked
-      → LeavesOnly moment since looked now (KeepsFolder first)
-      → LeavesOnly moment since start now (KeepsFolder first)
-  while_opened start looked now first only lasts same time opening =
-      let kept = KeepsFolder first in
-      let at_first = started moment since start kept (λ image left.
-      image_keeps first (leaves start) lasts image (only image left)) in
-      let then = goes_on moment since leaves read_at lasted_at start start looked kept at_first time
-      (image_keeps first (leaves looked)
-      (lasts_on first (leaves start) (leaves looked) lasts same.fewer)) in
-      goes_on_by moment since start looked now kept then opening
-
-  -- and while lines are written
+    (leaves : D → List ℕ → Option (List ℕ) → Type 0) where
+  -- while lines are written to a folder that was opened
   pub while_written : (files : D → Option Files) (start opened now : D) (first then : Files)
       (base : ℕ)
       (flushing archives drain : Bool) (writers : ℕ) (ms : List Mutation) (least : ℕ)
       → KeepsFolder first then
-      → LeavesOnly moment since start opened (KeepsFolder first)
+      → LeavesOnly moment since start opened (WasLeftOr (leaves start) (KeepsFolder first))
       → (lines : LeavesShares files changes moment since leaves opened now (bytes_at then) base
       flushing archives drain writers ms least)
-      → (image : Files) → since now (moment start) image → NoChances lines.log image
-      → AddsFirst first (said_by lines.history) 0 image
+      → (image : Files) → since now (moment start) image → WasLeftOr (leaves start)
+      (λ left. NoChances lines.log left → AddsFirst first (said_by lines.history) 0 left) image
   while_written files start opened now first then base flushing archives drain writers ms least
       kept opening lines =
       let said = said_by lines.history in
-      let has = λ (image : Files). NoChances lines.log image → AddsFirst first said 0 image in
-      let before = weakened moment since start opened (KeepsFolder first) has opening
-      (λ image keeps chance. adds_none first image said keeps) in
+      let has = WasLeftOr (leaves start) (λ (left : Files).
+      NoChances lines.log left → AddsFirst first said 0 left) in
+      let before = weakened moment since start opened
+      (WasLeftOr (leaves start) (KeepsFolder first)) has opening
+      (λ image. ⊎_elim inl (λ keeps. inr (λ chance. adds_none first image said keeps))) in
       let after = weakened moment since opened now (λ image.
       NoChances lines.log image → RestoresLines (bytes_at then) said 0 image) has lines.meanwhile
-      (λ image restores chance.
-      adds_lines first then image said 0 kept (restores chance)) in
+      (λ image restores. inr (λ chance.
+      adds_lines first then image said 0 kept (restores chance))) in
       (goes_on_by moment since start opened now has before after).each

@@ -11,6 +11,7 @@ use Rattle.std.proofs.Common.{
   None,
   inl,
   inr,
+  ⊎_elim,
   refl,
   subst,
   sym,
@@ -23,7 +24,7 @@ use Rattle.clog_io.specs.declared.clock.Clock.{Ghosts as ClockTells}
 use Rattle.clog_disk.specs.declared.change.Change.{Change}
 use Rattle.clog_disk.specs.declared.disk.Disk.{Ghosts as DiskTells}
 use Rattle.clog_disk.specs.Files.{Files, SameTold, Told}
-use Rattle.clog_disk.specs.Images.{IsImage, LastsAll, Within}
+use Rattle.clog_disk.specs.Images.{IsImage, Within}
 use Rattle.clog_mutation.specs.declared.mutation.Mutation.{Mutation}
 use Rattle.clog_crash.specs.Log.{Write}
 use Rattle.clog_folder.specs.Passing.{IsUntouched as IsDiskUntouched}
@@ -65,7 +66,7 @@ adds_some before ms least image adds = record {
 record IsOnward (o n : Outside) : Type 0 where
   files : n.files ≡ o.files
   changes : n.changes ≡ o.changes
-  lasting : (before : Files) → LastsAll before n.leaves → LastsAll before o.leaves
+  left : (image : Files) → IsImage o.leaves image → IsImage n.leaves image
   told : (moment : ℕ) → o.tells moment → n.tells moment
   files_now : n.files_now ≡ o.files_now
   changes_now : n.changes_now ≡ o.changes_now
@@ -101,9 +102,9 @@ module _ (o n : Outside) (on : IsOnward o n) (options : ApplyOptions) (ms : List
     history = w.history;
     wrote = written_on before w.log w.wrote;
     says = w.says;
-    since = λ image is chances. elim (on.since image is) [
-      | inl then ↦ w.since image then chances
-      | inr now ↦ adds_some before _ least image (w.now image now chances)
+    since = λ image is. elim (on.since image is) [
+      | inl then ↦ ⊎_elim (λ was. inl (on.left image was)) inr (w.since image then)
+      | inr now ↦ inr (λ chances. adds_some before _ least image (w.now image now chances))
     ];
     now = λ image is chances. w.now image (image_then image is) chances;
     at_drain = λ none beyond image is chances.
@@ -132,10 +133,8 @@ module _ (o n : Outside) (on : IsOnward o n) (options : ApplyOptions) (ms : List
         (subst (λ (f : Option Files). IfSome o.files
         (λ before. Told f (KeepsOthers before))) (sym on.files_now) w.others);
     lasts = subst (λ (f : Option Files). IfSome f
-        (λ before. LastsAll before n.leaves → LeavesFirst n options before ms least))
-        (sym on.files)
-        (if_some o.files _ _ (λ before has lasting.
-        leaves_on before least (has (on.lasting before lasting))) w.lasts);
+        (λ before. LeavesFirst n options before ms least)) (sym on.files)
+        (if_some o.files _ _ (λ before has. leaves_on before least has) w.lasts);
   }
 
   run_on : (text : List ℕ) (before after : Files) (added : List Change)
@@ -192,8 +191,7 @@ module _ (o : Outside) (options : ApplyOptions) (ms : List Mutation) where
     opened = w.opened;
     wrote = w.wrote;
     others = w.others;
-    lasts = if_some o.files _ _ (λ before has lasting.
-        leaves_less before least (has lasting)) w.lasts;
+    lasts = if_some o.files _ _ (λ before has. leaves_less before least has) w.lasts;
   }
 
 -- ---- by a disk
@@ -213,7 +211,7 @@ module _ {D C : Type 0} (disk : DiskTells D) (clock : ClockTells C)
   is_onward = record {
     files = refl;
     changes = refl;
-    lasting = λ before lasts. lasts;
+    left = λ image is. is;
     told = λ moment tells. tells;
     files_now = still.same.files;
     changes_now = still.changes_are;

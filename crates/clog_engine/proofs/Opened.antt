@@ -28,7 +28,7 @@ use Rattle.clog_io.specs.declared.clock.Clock.{Ghosts as ClockTells}
 use Rattle.clog_disk.specs.declared.change.Change.{Change}
 use Rattle.clog_disk.specs.declared.disk.Disk.{Ghosts as DiskTells}
 use Rattle.clog_disk.specs.Files.{Files, SameTold, Told, bytes_at}
-use Rattle.clog_disk.specs.Images.{IsImage, LastsAll, LeavesOnly}
+use Rattle.clog_disk.specs.Images.{IsImage, LeavesOnly}
 use Rattle.clog_mutation.specs.declared.mutation.Mutation.{Mutation}
 use Rattle.clog_words.specs.declared.request.ApplyOptions.{ApplyOptions}
 use Rattle.clog_crash.specs.Log.{Write}
@@ -45,9 +45,11 @@ use Rattle.clog_segments.specs.Opened.{
   OpensAs,
   RecoversAll,
   RecoversFirst,
+  WasLeftOr,
 }
 use Rattle.clog_segments.specs.StoreFailed.{AllStay}
-use Rattle.clog_segments.proofs.OpenedWhole.{keeps_same, lasts_on}
+use Rattle.clog_segments.proofs.OpenedWhole.{keeps_same}
+use Rattle.clog_segments.proofs.WasLeft.{left_then}
 use Rattle.clog_closing.specs.Logs.{id_of}
 use Rattle.clog_closing.proofs.Openings.{recovery_changes}
 use Rattle.clog_closing.specs.Written.{BringsOnly, HasBrought}
@@ -65,7 +67,7 @@ use Rattle.clog_engine.specs.Logged.{
 }
 use Rattle.clog_engine.specs.Outside.{IsLeftAlone, Outside, outside_with}
 use Rattle.clog_engine.specs.Report.{IsReport, head_with}
-use Rattle.clog_engine.proofs.Images.{adds_lines, while_opened, while_written}
+use Rattle.clog_engine.proofs.Images.{adds_lines, while_written}
 use Rattle.clog_engine.proofs.SharesApplied.{run_of_shares}
 
 -- ---- what is told
@@ -164,11 +166,15 @@ module _ {D C : Type 0} (disk : DiskTells D) (clock : ClockTells C)
       (both disk.files disk.changes disk.leaves disk.moment disk.since disk.read_at disk.lasted_at
       disk.faults start looked now still alone)
 
-  -- what lasted lasts
-  lasting : (first : Files) → LastsAll first (disk.leaves start)
-      → LastsAll first (disk.leaves looked)
-  lasting first lasts =
-      lasts_on first (disk.leaves start) (disk.leaves looked) lasts still.same.images.fewer
+  -- over the look too
+  while_opened : (now : D) (first : Files)
+      → LeavesOnly disk.moment disk.since looked now
+      (WasLeftOr (disk.leaves looked) (KeepsFolder first))
+      → LeavesOnly disk.moment disk.since start now
+      (WasLeftOr (disk.leaves start) (KeepsFolder first))
+  while_opened now first opening =
+      left_then disk.moment disk.since disk.leaves disk.read_at disk.lasted_at start looked only
+      still.same.images.fewer still.time now (KeepsFolder first) opening
 
   -- a folder that was opened, or whose opening broke off, restores the same
   pub keeps_all : (now : D) → SameTold (disk.files looked) (disk.files now)
@@ -176,8 +182,9 @@ module _ {D C : Type 0} (disk : DiskTells D) (clock : ClockTells C)
       → Told (disk.files now) (KeepsFolder first))
       → ((first : Files) → disk.files looked ≡ Some first
       → Told (disk.files now) (KeepsOthers first))
-      → ((first : Files) → disk.files looked ≡ Some first → LastsAll first (disk.leaves looked)
-      → LeavesOnly disk.moment disk.since looked now (KeepsFolder first))
+      → ((first : Files) → disk.files looked ≡ Some first
+      → LeavesOnly disk.moment disk.since looked now
+      (WasLeftOr (disk.leaves looked) (KeepsFolder first)))
       → ((first : Files) → disk.files looked ≡ Some first
       → RecoversFirst first (disk.changes looked) (disk.changes now))
       → KeepsAll (outside_at now)
@@ -193,19 +200,16 @@ module _ {D C : Type 0} (disk : DiskTells D) (clock : ClockTells C)
     others = if_told (disk.files start) (disk.files looked)
         (λ (first : Files). Told (disk.files now) (KeepsOthers first)) still.same.files stay;
     lasts = if_told (disk.files start) (disk.files looked)
-        (λ (first : Files). LastsAll first (disk.leaves start) → (image : Files)
-        → disk.since now (disk.moment start) image → KeepsFolder first image)
-        still.same.files (λ first is lasts.
-        (while_opened disk.changes disk.moment disk.since disk.leaves disk.read_at disk.lasted_at
-        start looked now first only lasts still.same.images still.time
-        (any first is (lasting first lasts))).each);
+        (λ (first : Files). (image : Files) → disk.since now (disk.moment start) image
+        → WasLeftOr (disk.leaves start) (KeepsFolder first) image)
+        still.same.files (λ first is. (while_opened now first (any first is)).each);
   }
 
   module _ (opened : D) (moment base : ℕ)
       (opens : OpensAs (disk.files looked) (disk.files opened) moment base)
       (any : (first : Files) → disk.files looked ≡ Some first
-      → LastsAll first (disk.leaves looked)
-      → LeavesOnly disk.moment disk.since looked opened (KeepsFolder first))
+      → LeavesOnly disk.moment disk.since looked opened
+      (WasLeftOr (disk.leaves looked) (KeepsFolder first)))
       (recovers : (first : Files) → disk.files looked ≡ Some first
       → RecoversAll first (disk.changes looked) (disk.changes opened)) where
     -- the folder could be opened
@@ -288,31 +292,27 @@ module _ {D C : Type 0} (disk : DiskTells D) (clock : ClockTells C)
     -- a crash leaves the first of the lines
     pub lasts_first : (now : D) (options : ApplyOptions) (ms : List Mutation) (least : ℕ)
         → ((then : Files) → disk.files opened ≡ Some then → (first : Files)
-        → disk.files looked ≡ Some first → LastsAll first (disk.leaves looked)
-        → LeavesShares disk.files disk.changes disk.moment disk.since disk.leaves opened now
+        → disk.files looked ≡ Some first → LeavesShares disk.files disk.changes disk.moment disk.since disk.leaves opened now
         (bytes_at then) base (is_some options.flush_at) options.archive options.drain
         options.writers ms least)
         → LastsFirst (outside_at now) options ms least
     unfolding written
     lasts_first now options ms least leaves = if_told (disk.files start) (disk.files looked)
-        (λ (first : Files). LastsAll first (disk.leaves start)
-        → LeavesFirst (outside_at now) options first ms least) still.same.files (λ first is lasts.
+        (λ (first : Files). LeavesFirst (outside_at now) options first ms least)
+        still.same.files (λ first is.
         let then = opened_as (disk.files looked) (disk.files opened) moment base first is opens in
         let kept = keeps_same first then.0 then.2.recovered.same in
-        let lines = leaves then.0 then.1 first is (lasting first lasts) in
+        let lines = leaves then.0 then.1 first is in
         let said = said_by lines.history in
-        let opening = while_opened disk.changes disk.moment disk.since disk.leaves disk.read_at
-        disk.lasted_at start looked opened first only lasts still.same.images still.time
-        (any first is (lasting first lasts)) in
+        let opening = while_opened opened first (any first is) in
         record {
           log = lines.log;
           history = lines.history;
           wrote = written now options ms first is lines.log lines.wrote;
           says = lines.says;
-          since = while_written disk.changes disk.moment disk.since disk.leaves disk.read_at
-              disk.lasted_at disk.files start opened now first then.0 base
-              (is_some options.flush_at)
-              options.archive options.drain options.writers ms least kept opening lines;
+          since = while_written disk.changes disk.moment disk.since disk.leaves disk.files start
+              opened now first then.0 base (is_some options.flush_at) options.archive options.drain
+              options.writers ms least kept opening lines;
           now = λ image left chance.
               adds_lines first then.0 image said least kept (lines.at_last image left chance);
           at_drain = λ none beyond image left chance.

@@ -11,7 +11,7 @@ use Rattle.clog_base.specs.declared.fault.Quantity.TheVariants.{SegmentBytes, Id
 use Rattle.clog_io.specs.Causes.{Rose}
 use Rattle.clog_disk.specs.declared.change.Change.{Change}
 use Rattle.clog_disk.specs.Files.{Files, SameTold, Told, bytes_at}
-use Rattle.clog_disk.specs.Images.{IsImage, LastsAll}
+use Rattle.clog_disk.specs.Images.{IsImage}
 use Rattle.clog_mutation.specs.declared.mutation.Mutation.{Mutation}
 use Rattle.clog_mutation.specs.Payload.{cells_of}
 use Rattle.clog_spec.specs.Sizes.{file_limit}
@@ -25,7 +25,7 @@ use Rattle.clog_crash.specs.Restore.{IsUndamaged}
 use Rattle.clog_folder.specs.Folder.{HasDamage, HasLongSegment}
 use Rattle.clog_segments.specs.Named.{sequence_limit, id_limit}
 use Rattle.clog_segments.specs.Opened.{CanBeOpened, HasGreatId, HasManyTables, IsOpened}
-use Rattle.clog_segments.specs.Opened.{KeepsFolder, RecoversAll, RecoversFirst}
+use Rattle.clog_segments.specs.Opened.{KeepsFolder, RecoversAll, RecoversFirst, WasLeftOr}
 use Rattle.clog_applied.specs.Applied.{IsAppliedRun}
 use Rattle.clog_applied.specs.Closed.{ClosedRun}
 use Rattle.clog_applied.specs.Filed.{BringsNoOther, IsAbove, KeepsOthers}
@@ -89,29 +89,29 @@ Wrote o options mutations = IfSome o.files
     × SaysShares options.writers mutations log history
     × Told o.files_now (BringsNoOther (map id_of log) before))
 
--- A crash at any moment of the run leaves what restores so, and a crash now at least so many of the
--- lines, where nothing passes by chance for what was written: the segments that were appended,
--- which say a history whose lines are, of each writer, the first of its share. Its lines come in
--- the order of the log. Where the changes go beyond appends, and there is no flush limit, a crash
--- leaves all of them.
+-- A crash at any moment of the run leaves what it might have left before the run, or what restores
+-- so; and a crash now at least so many of the lines. That is where nothing passes by chance for
+-- what was written: the segments that were appended, which say a history whose lines are, of each
+-- writer, the first of its share. Its lines come in the order of the log. Where the changes go
+-- beyond appends, and there is no flush limit, a crash now leaves all of them.
 pub record LeavesFirst (o : Outside) (options : ApplyOptions) (before : Files)
     (mutations : List Mutation) (least : ℕ) : Type 0 where
   pub log : List Write
   pub history : List LoggedLine
   pub wrote : HasWrittenLog o options before mutations log
   pub says : SaysShares options.writers mutations log history
-  pub since : (image : Files) → o.since image → NoChances log image
-      → AddsFirst before (said_by history) 0 image
+  pub since : (image : Files) → o.since image → WasLeftOr o.leaves
+      (λ left. NoChances log left → AddsFirst before (said_by history) 0 left) image
   pub now : (image : Files) → IsImage o.leaves_now image → NoChances log image
       → AddsFirst before (said_by history) least image
   pub at_drain : options.flush_at ≡ None → GoesBeyond wrote.added → (image : Files)
       → IsImage o.leaves_now image → NoChances log image
       → AddsFirst before (said_by history) (length mutations) image
 
--- Where the disk tells its files, and all of them lasted before, a crash leaves that.
+-- where the disk tells its files, a crash leaves that
 abbrev pub LastsFirst : Outside → ApplyOptions → List Mutation → ℕ → Type 0
-LastsFirst o options mutations least = IfSome o.files
-    (λ before. LastsAll before o.leaves → LeavesFirst o options before mutations least)
+LastsFirst o options mutations least =
+    IfSome o.files (λ before. LeavesFirst o options before mutations least)
 
 -- ---- the run ends well
 
@@ -187,9 +187,9 @@ pub record KeepsAll (o : Outside) : Type 0 where
   pub changes : IfSome o.files (λ before. RecoversFirst before o.changes o.changes_now)
   pub same : IfSome o.files (λ before. Told o.files_now (KeepsFolder before))
   pub others : IfSome o.files (λ before. Told o.files_now (KeepsOthers before))
-  -- and whatever a crash leaves, where all of it lasted
-  pub lasts : IfSome o.files (λ before. LastsAll before o.leaves
-      → (image : Files) → o.since image → KeepsFolder before image)
+  -- and whatever a crash leaves that it might not have left before
+  pub lasts : IfSome o.files (λ before. (image : Files) → o.since image
+      → WasLeftOr o.leaves (KeepsFolder before) image)
 
 -- the disk was left alone, or the folder restores the same, or the first of the lines came
 abbrev pub LeavesSome : ApplyOptions → List Mutation → Outside → Type 0

@@ -81,10 +81,10 @@ fn outcome_of<
 /// - with `--drain` none of these segments is left: behind them came a table file of each table
 ///   that the lines touch, and with `--archive` each has its archive name.
 ///
-/// Of such a source and disk, where all in the folder lasted before, and nothing passes a check by
-/// chance, a crash at any moment leaves what restores to what it did before with the first of the
-/// lines in the order of the log, which are of each writer the first of its share, and after `Ok`
-/// with all of them.
+/// Of such a source and disk, where nothing passes a check by chance, a crash at any moment leaves
+/// what it might have left before the run, or what restores to what the folder did with the first
+/// of the lines. They are the first in the order of the log, and of each writer the first of its
+/// share. A crash after `Ok` leaves what restores to that with all of them.
 ///
 /// With `--flush-at` each writer flushes a table once it has logged so many updates of it since its
 /// last flush of it: meanwhile table files come, and segments go whose entries all lie in them,
@@ -125,9 +125,9 @@ fn outcome_of<
 /// - Each table file stands for an entry and comes behind the entries of its table up to its end,
 ///   and each removal behind files that hold its segment; where the disk tells its files, the table
 ///   files are there.
-/// - Under the two premises above, what a crash leaves restores to what was there before with the
-///   first of the lines that were logged, of each writer the first of its share; the files as they
-///   read are one such image.
+/// - Under the premise above the files as they read restore to what was there before with the first
+///   of the lines that were logged, of each writer the first of its share. So does what a crash
+///   leaves, or it is what it might have left before the run.
 ///
 /// The gate is told how far each writer and each worker is.
 pub fn run<

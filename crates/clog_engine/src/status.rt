@@ -8,8 +8,8 @@ use clog_text::BadLine;
 
 /// How a run ends. Each refusal leaves the disk as it was, but `DiskFault`, `OutOfMemory` and
 /// `WriteFault`, which comes when all is done. After the first two the folder may be recovered, in
-/// part or whole, and the first of the lines may stand in it; where all of it lasted before, and
-/// nothing passes a check by chance, it restores to what it restored to, with these.
+/// part or whole, and the first of the lines may stand in it; where nothing passes a check by
+/// chance, it restores to what it restored to, with these.
 #[derive(Clone, Copy, Debug, PartialEq, Eq)]
 pub enum Status {
     /// The report was written whole.

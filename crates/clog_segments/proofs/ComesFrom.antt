@@ -2,7 +2,7 @@
 use Rattle.std.proofs.Common.{◌≡◌, ◌⊎◌, ℕ, inl, inr, List, Option, Some, sym, subst}
 use Rattle.std.specs.FinMap as finmap
 use Rattle.clog_disk.specs.Files.{Files}
-use Rattle.clog_disk.specs.Images.{Elapses, IsImage, LastsAll, TurnsTo, Within}
+use Rattle.clog_disk.specs.Images.{Elapses, IsImage, LastsAll, TurnsTo}
 use Rattle.clog_disk.proofs.Moments.{goes_on_by, started}
 use Rattle.clog_crash.specs.Readings.{Reading}
 use Rattle.clog_segments.specs.Filing.{ComesFrom, IsRecoveryPut, LeavesFrom, StaysFrom}
@@ -12,11 +12,6 @@ use Rattle.clog_segments.proofs.Outcomes.{one_call}
 pub lasts_from : (first : Files) (leaves : List ℕ → Option (List ℕ) → Type 0)
     → LastsAll first leaves → LeavesFrom first leaves
 lasts_from first leaves lasts name bytes left = inl (sym (lasts name (Some bytes) left))
-
-pub within_from : (first : Files) (old new : List ℕ → Option (List ℕ) → Type 0)
-    → Within old new → LeavesFrom first old → LeavesFrom first new
-within_from first old new within from name bytes left =
-    from name bytes (within name (Some bytes) left)
 
 -- a file is perhaps put, or goes
 pub turned_from : (first : Files) (old new : List ℕ → Option (List ℕ) → Type 0)

@@ -52,3 +52,4 @@ mod TablesYet
 pub mod Torn
 mod TornReads
 mod Untouched
+pub mod WasLeft

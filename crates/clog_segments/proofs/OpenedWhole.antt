@@ -22,20 +22,17 @@ use Rattle.std.proofs.Common.{
 }
 use Rattle.std.specs.Prelude.{◌↔◌, Err, IfSome}
 use Rattle.std.proofs.lemmas.Option.{none-some}
-use Rattle.std.specs.FinMap as finmap
 use Rattle.clog_base.specs.declared.cell.Cell.{Cell}
 use Rattle.clog_base.specs.declared.cell.CellKey.{CellKey}
 use Rattle.clog_base.specs.declared.position.Position.{Position}
 use Rattle.clog_cells.proofs.Made.{merge_of}
 use Rattle.clog_disk.specs.Files.{Files, Lists, SameTold, Told, bytes_at}
-use Rattle.clog_disk.specs.Images.{IsImage, LastsAll, Within}
-use Rattle.clog_disk.proofs.Named.{same_files}
+use Rattle.clog_disk.specs.Images.{LastsAll}
 use Rattle.clog_crash.specs.Flush.{IsSameFolder, IsSettled}
 use Rattle.clog_crash.specs.Folder.{cells_of_tables}
 use Rattle.clog_crash.specs.Readings.{RestoresIn}
 use Rattle.clog_crash.specs.Recovery.{NamesAny}
 use Rattle.clog_crash.specs.Rest.{IsAtRest}
-use Rattle.clog_crash.specs.Restore.{IsUndamaged}
 use Rattle.clog_crash.proofs.changes.Covering.{exactly}
 use Rattle.clog_crash.proofs.rest.Opening.{at_opening}
 use Rattle.clog_folder.specs.declared.fault.OpenFault.{OpenFault}
@@ -82,17 +79,6 @@ still_keeps first old now is same =
     subst (λ (o : Option Files). Told o (KeepsFolder first)) (sym (same ∙ is))
     (keeps_itself first)
 
-pub image_keeps : (first : Files) (leaves : List ℕ → Option (List ℕ) → Type 0)
-    → LastsAll first leaves → (image : Files) → IsImage leaves image → KeepsFolder first image
-image_keeps first leaves lasts image left =
-    subst (KeepsFolder first)
-    (sym (same_files image first (λ n. lasts n (finmap.get image n) (left n))))
-    (keeps_itself first)
-
-pub lasts_on : (first : Files) (old new : List ℕ → Option (List ℕ) → Type 0)
-    → LastsAll first old → Within old new → LastsAll first new
-lasts_on first old new lasts within name left has = lasts name left (within name left has)
-
 -- ---- what is known
 
 module _ (first : Files) (files : Option Files) (is : files ≡ Some first) (moment : ℕ)
@@ -103,13 +89,6 @@ module _ (first : Files) (files : Option Files) (is : files ≡ Some first) (mom
 
   lists : Lists (Some first) known.names
   lists = subst (λ (o : Option Files). Lists o known.names) is is_known.lists
-
-  pub known_undamaged : IsUndamaged first
-  known_undamaged = log.told.read.readable.undamaged refl
-
-  pub known_settled : (leaves : List ℕ → Option (List ℕ) → Type 0) → LastsAll first leaves
-      → IsSettled first leaves
-  known_settled leaves lasts = record { exact = lasts; undamaged = known_undamaged }
 
   pub known_above : (n : ℕ) → NamesAny first n → n < known.base
   known_above n named =
@@ -144,24 +123,23 @@ base_fits P moment base is low = elim is.base.one [
 pub at_rest : (first : Files) (files : Option Files) (moment : ℕ) (known : Known)
     → IsKnown files moment known → moment < 2 ^ 62 → (told : Option Files)
     (leaves : List ℕ → Option (List ℕ) → Type 0) → Told told (IsRecovered first known.base)
-    → Told told (IsSameFolder first)
-    → Told told (λ now. LastsAll now leaves → IsAtRest now leaves known.base [] [])
-at_rest first files moment known is_known low None leaves recovered same = absurd same
-at_rest first files moment known is_known low (Some now) leaves recovered same = λ lasts.
-    at_opening now leaves known.base (base_fits _ moment known.base is_known.base_is low)
-    (record { exact = lasts; undamaged = same.undamaged })
+    → Told told (λ now. IsSettled now leaves)
+    → Told told (λ now. IsAtRest now leaves known.base [] [])
+at_rest first files moment known is_known low None leaves recovered settled = absurd settled
+at_rest first files moment known is_known low (Some now) leaves recovered settled =
+    at_opening now leaves known.base (base_fits _ moment known.base is_known.base_is low) settled
     recovered.no_segment recovered.below
 
 -- where the folder is told then, it is told first
 pub rests_told : (old now : Option Files) (leaves : List ℕ → Option (List ℕ) → Type 0) (base : ℕ)
     → SameTold old now
     → ((first : Files) → old ≡ Some first
-    → Told now (λ f. LastsAll f leaves → IsAtRest f leaves base [] []))
+    → Told now (λ f. IsAtRest f leaves base [] []))
     → IfSome now (λ f. LastsAll f leaves → IsAtRest f leaves base [] [])
 rests_told old None leaves base same rests = tt
 rests_told None (Some g) leaves base same rests =
     absurd (none-some g (sym same))
-rests_told (Some f) (Some g) leaves base same rests = rests f refl
+rests_told (Some f) (Some g) leaves base same rests = λ lasts. rests f refl
 
 -- what lasts now is told of this moment
 pub lasted_now : (now : Option Files) (leaves : List ℕ → Option (List ℕ) → Type 0)

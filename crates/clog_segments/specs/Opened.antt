@@ -28,6 +28,7 @@ use Rattle.clog_base.specs.declared.fault.Quantity.TheVariants.{Ids, SegmentByte
 use Rattle.clog_io.specs.Causes.{Rose}
 use Rattle.clog_disk.specs.declared.change.Change.{Change}
 use Rattle.clog_disk.specs.Files.{Files, Lists, Told, bytes_at}
+use Rattle.clog_disk.specs.Images.{IsImage}
 use Rattle.clog_table.specs.declared.table_file.TableFile.{TableFile}
 use Rattle.clog_crash.specs.Covering.{SameMerge}
 use Rattle.clog_crash.specs.Flush.{IsSameFolder}
@@ -190,6 +191,10 @@ Opens files told faults now moment (result.Err refusal) = OpenRefused files faul
 pub record KeepsFolder (first now : Files) : Type 0 where
   pub same : SameMerge (RestoresIn (bytes_at now)) (RestoresIn (bytes_at first))
   pub undamaged : IsUndamaged first → IsUndamaged now
+
+-- a crash might have left the image before, or it has P
+abbrev pub WasLeftOr : (List ℕ → Option (List ℕ) → Type 0) → (Files → Type 0) → Files → Type 0
+WasLeftOr old P image = IsImage old image ⊎ P image
 
 -- a folder that is refused for what it holds is left alone
 abbrev pub LeftAlone : Type 0 → OpenFault → Type 0

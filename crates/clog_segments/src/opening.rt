@@ -15,7 +15,7 @@ ghost use Rattle.clog_segments.specs.Live.{IsLogOf};
 ghost use Rattle.clog_segments.specs.Named.{IsLateTable};
 ghost use Rattle.clog_segments.specs.Opened.{HasRows, IsRecovered, KeepsFolder, LeavesAlone, Looks};
 ghost use Rattle.clog_segments.specs.Opened.{Opens, OthersStay, RecoversAll, RecoversFirst};
-ghost use Rattle.clog_segments.specs.Opened.{RecoversOnly};
+ghost use Rattle.clog_segments.specs.Opened.{RecoversOnly, WasLeftOr};
 
 use crate::naming::{SEQUENCE_LIMIT, base_of, has_late_table, segment_ids};
 use crate::reading::read_both;
@@ -28,7 +28,7 @@ use clog_folder::{OpenFault, fault_of};
 use std::alloc::Global;
 
 /// Recovers a folder of these names, whose log restores these cells and reaches so far.
-fn recover_folder<D: Disk>(
+fn recover_settled<D: Disk>(
     alloc: Global,
     disk: &mut D,
     names: &[Name],
@@ -72,6 +72,53 @@ fn recover_folder<D: Disk>(
     match take_all_recovered(disk, &ids) {
         Ok(()) => Ok(()),
         Err(fault) => Err(fault_of(fault)),
+    }
+}
+
+/// Makes a folder of these names last as it was read, and recovers it. So a file that recovery puts
+/// stands on no byte and on no name that a crash takes back.
+fn recover_folder<D: Disk>(
+    alloc: Global,
+    disk: &mut D,
+    names: &[Name],
+    cells: CellMap,
+    top: Position,
+) -> Result<(), OpenFault>
+    requires log { (tables : List table_held) × IsLogOf (D.files disk.old) tables cells top }
+    requires lists { Lists (D.files disk.old) names.now }
+    requires few { ¬ Any IsLateTable names.now }
+    ensures told { SameTold (D.files disk.old) (D.files disk.new) }
+    ensures later { IsLater D.moment D.read_at D.lasted_at disk.old disk.new }
+    ensures no_fewer { D.faults disk.old ≤ D.faults disk.new }
+    ensures cause { StepCause (D.faults disk.old) (D.faults disk.new) result }
+    ensures changes { (first : Files) → D.files disk.old ≡ Some first
+        → RecoversFirst first (D.changes disk.old) (D.changes disk.new) }
+    ensures recovers { (first : Files) → D.files disk.old ≡ Some first
+        → OnOk result (RecoversAll first (D.changes disk.old) (D.changes disk.new)) }
+    ensures others { (first : Files) → D.files disk.old ≡ Some first
+        → Told (D.files disk.new) (RecoversOnly first) }
+    ensures same { (first : Files) → D.files disk.old ≡ Some first
+        → Told (D.files disk.new) (IsSameFolder first) }
+    ensures files { (first : Files) → D.files disk.old ≡ Some first → (base : ℕ)
+        → ((n : ℕ) → NamesAny first n → n < base)
+        → OnOk result (Told (D.files disk.new) (IsRecovered first base)) }
+    ensures settles { (first : Files) → D.files disk.old ≡ Some first
+        → OnOk result (Told (D.files disk.new) (λ now. IsSettled now (D.leaves disk.new))) }
+    ensures any_moment { (first : Files) → D.files disk.old ≡ Some first
+        → LeavesOnly D.moment D.since disk.old disk.new
+        (WasLeftOr (D.leaves disk.old) (KeepsFolder first)) }
+    ensures from { (first : Files) → D.files disk.old ≡ Some first
+        → LeavesOnly D.moment D.since disk.old disk.new
+        (WasLeftOr (D.leaves disk.old) (ComesFrom first)) }
+{
+    // Matches in place of `?`, since the exits speak of the folder.
+    match disk.settle() {
+        Ok(()) => {}
+        Err(fault) => return Err(fault_of(fault)),
+    }
+    match recover_settled(alloc, disk, names, cells, top) {
+        Ok(()) => Ok(()),
+        Err(fault) => Err(fault),
     }
 }
 
@@ -124,6 +171,9 @@ fn look<D: Disk>(alloc: Global, disk: &mut D, moment: u64) -> Result<Known, Open
 /// position; the place at which reading stopped. Then the limits on sequences and on ids are looked
 /// at.
 ///
+/// Behind all that is looked at, and before anything is changed, the folder is made to last as it
+/// was read: a program that was killed may have left bytes and names that did not last.
+///
 /// Recovery puts files of new names, each with the newest cells of one table that the log restores,
 /// one for each table that has such cells, in the order of tables; then it removes the segments in
 /// the order of their ids. It changes nothing else.
@@ -133,8 +183,9 @@ fn look<D: Disk>(alloc: Global, disk: &mut D, moment: u64) -> Result<Known, Open
 /// - `OutOfMemory`: memory was refused.
 ///
 /// Whatever is answered, each file whose name is no segment's stands as it was, what came are files
-/// that recovery puts, and the folder restores the same. Where all that was there lasted before, so
-/// does each image of a crash meanwhile, which has no other files either.
+/// that recovery puts, and the folder restores the same. Each image of a crash meanwhile is one that
+/// the disk might have left before, or restores the same and has no other files either. At `Ok` all
+/// lasts.
 pub fn recover<D: Disk>(alloc: Global, disk: &mut D, moment: u64) -> Result<u64, OpenFault>
     requires moment { moment < 2 ^ 62 }
     ensures told { SameTold (D.files disk.old) (D.files disk.new) }
@@ -161,17 +212,16 @@ pub fn recover<D: Disk>(alloc: Global, disk: &mut D, moment: u64) -> Result<u64,
     ensures restored { (first : Files) → D.files disk.old ≡ Some first
         → OnOk result (HasRows first) }
     ensures lasts { (first : Files) → D.files disk.old ≡ Some first
-        → LastsAll first (D.leaves disk.old)
         → OnOk result (Told (D.files disk.new) (λ now. LastsAll now (D.leaves disk.new))) }
     ensures rests { (first : Files) → D.files disk.old ≡ Some first
-        → IfOk result (λ base. Told (D.files disk.new) (λ now. LastsAll now (D.leaves disk.new)
-        → IsAtRest now (D.leaves disk.new) base [] [])) }
+        → IfOk result (λ base. Told (D.files disk.new)
+        (λ now. IsAtRest now (D.leaves disk.new) base [] [])) }
     ensures any_moment { (first : Files) → D.files disk.old ≡ Some first
-        → LastsAll first (D.leaves disk.old)
-        → LeavesOnly D.moment D.since disk.old disk.new (KeepsFolder first) }
+        → LeavesOnly D.moment D.since disk.old disk.new
+        (WasLeftOr (D.leaves disk.old) (KeepsFolder first)) }
     ensures images { (first : Files) → D.files disk.old ≡ Some first
-        → LastsAll first (D.leaves disk.old)
-        → LeavesOnly D.moment D.since disk.old disk.new (ComesFrom first) }
+        → LeavesOnly D.moment D.since disk.old disk.new
+        (WasLeftOr (D.leaves disk.old) (ComesFrom first)) }
 {
     // Matches in place of `?`, since the exits speak of the folder.
     let known = match look(alloc, disk, moment) {

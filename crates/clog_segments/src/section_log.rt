@@ -46,6 +46,7 @@ ghost use Rattle.clog_segments.specs.Opened.{
   OthersStay,
   RecoversAll,
   RecoversFirst,
+  WasLeftOr,
 };
 
 mod dropping;
@@ -170,9 +171,9 @@ impl<D: Disk> SectionLog<D> {
     /// in milliseconds. For each refusal see `recover`; the disk comes back then.
     ///
     /// Whatever is answered, each file whose name is no segment's stands as it was, what came are
-    /// files that recovery puts, and the folder restores the same. Where all that was there lasted
-    /// before, so does each image of a crash meanwhile, which has no other files either; then all
-    /// lasts at the opening too.
+    /// files that recovery puts, and the folder restores the same. Each image of a crash meanwhile
+    /// is one that the disk might have left before, or restores the same and has no other files
+    /// either. At `Ok` all lasts.
     pub fn open(alloc: Global, disk: D, moment: u64) -> Result<SectionLog<D>, (D, OpenFault)>
         requires moment { moment < 2 ^ 62 }
         ensures opens { IfOk result (λ log. OpensAs (D.files disk) (D.files log.disk) moment
@@ -186,7 +187,6 @@ impl<D: Disk> SectionLog<D> {
         ensures runs { IfOk result (λ log. log.is_stopped ≡ false) }
         ensures quiet { IfOk result (λ log. D.faults log.disk ≡ D.faults disk) }
         ensures lasted { (first : Files) → D.files disk ≡ Some first
-            → LastsAll first (D.leaves disk)
             → IfOk result (λ log. D.lasted_at log.disk log.opened) }
         ensures lives { IfOk result (λ log. D.lasted_at log.disk log.opened
             → Lives D.files D.moment D.since D.leaves D.read_at D.lasted_at log) }
@@ -209,11 +209,11 @@ impl<D: Disk> SectionLog<D> {
         ensures came { (first : Files) → D.files disk ≡ Some first
             → HandsOn (λ now. Told (D.files now) (AreRecoveryPuts first)) result }
         ensures any_moment { (first : Files) → D.files disk ≡ Some first
-            → LastsAll first (D.leaves disk)
-            → HandsOn (λ now. LeavesOnly D.moment D.since disk now (KeepsFolder first)) result }
+            → HandsOn (λ now. LeavesOnly D.moment D.since disk now
+            (WasLeftOr (D.leaves disk) (KeepsFolder first))) result }
         ensures images { (first : Files) → D.files disk ≡ Some first
-            → LastsAll first (D.leaves disk)
-            → HandsOn (λ now. LeavesOnly D.moment D.since disk now (ComesFrom first)) result }
+            → HandsOn (λ now. LeavesOnly D.moment D.since disk now
+            (WasLeftOr (D.leaves disk) (ComesFrom first))) result }
     {
         let mut disk = disk;
         match recover(alloc, &mut disk, moment) {

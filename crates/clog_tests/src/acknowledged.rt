@@ -138,13 +138,14 @@ fn losing_moments<R: Threads + Wait + Sync>(
     Ok(losing)
 }
 
-// A commit is an append and a sync, and a close makes no call of the disk.
+// An opening makes its folder last by one call. A commit is an append and a sync, and a close makes
+// no call of the disk.
 #[test]
 fn sampled_images_restore_the_lines_whose_commits_have_returned(
     rt: HostRuntime,
 ) -> Result<(), Fail> {
     let returns = moments_of_returns(&rt, rt.alloc())?;
-    assert_eq!(rt; returns.as_slice(), [2, 4, 6, 10].as_slice());
+    assert_eq!(rt; returns.as_slice(), [3, 5, 7, 11].as_slice());
     let losing = losing_moments(&rt, rt.alloc(), returns.as_slice())?;
     assert_eq!(rt; losing.as_slice(), [].as_slice());
     Ok(())

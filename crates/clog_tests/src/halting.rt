@@ -59,14 +59,14 @@ fn words(alloc: Global) -> Result<Vec<String>, AllocError> {
     Ok(words)
 }
 
-// The third call of the disk is the sync of writer 1 behind its first line: to that writer alone
+// The fourth call of the disk is the sync of writer 1 behind its first line: to that writer alone
 // the clock tells that the period has passed.
 #[test]
 fn a_writer_stops_behind_its_line_in_hand(rt: HostRuntime) -> Result<(), Fail> {
     let words = words(rt.alloc())?;
     let mut source = MemSource::new(twenty_lines(rt.alloc())?, 7, Vec::new(rt.alloc()));
     let mut sink = MemSink::new(rt.alloc(), Vec::new(rt.alloc()));
-    let disk = MemDisk::failing(rt.alloc(), [3].to_vec(rt.alloc())?);
+    let disk = MemDisk::failing(rt.alloc(), [4].to_vec(rt.alloc())?);
     let clock = ListClock::new([1000, 20_000, 1000].to_vec(rt.alloc())?);
     let gate = CountingGate::new(rt.clone()?);
     let (status, _disk) = run(

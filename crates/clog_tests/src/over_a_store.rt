@@ -61,11 +61,11 @@ fn receipt(line: u32, offset: u32) -> Receipt {
 }
 
 // Commits in batch mode of the deletion and of values of one and of two letters. The opening lists
-// the folder once, and each commit is an append and a sync, so the disk's seventh call is the third
-// sync.
+// the folder and makes it last, and each commit is an append and a sync, so the disk's eighth call
+// is the third sync.
 fn commit_until_refused<R: Wait>(rt: &R, alloc: Global) -> Result<[Commit; 3], Fail> {
     let mut calls = Vec::new(alloc);
-    calls.push(7)?;
+    calls.push(8)?;
     let alone = Alone::open(alloc, MemDisk::failing(alloc, calls), SyncCore::batch())?;
     let (alone, first) = alone.commit(rt, alloc, 1, DELETION)?;
     let (alone, second) = alone.commit(rt, alloc, 2, payload_of(alloc, b'k', 0, 1)?.as_slice())?;

@@ -20,6 +20,7 @@ pub(crate) fn call<D: Disk>(
         Call::Changes => put(out, disk.change_count()),
         Call::Len => put_size(out, disk.len(&words.name())),
         Call::Change(change) => put_done(out, changed(disk, change, words)),
+        Call::Settle => put_done(out, disk.settle()),
     }
 }
 

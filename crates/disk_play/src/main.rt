@@ -15,6 +15,7 @@
 //! | `append NAME AT TEXT` | the text comes at a file's end |
 //! | `fill NAME AT N` | so many `x` come there |
 //! | `publish NAME TEXT`, `sync NAME`, `remove NAME`, `link NAME NAME` | calls that change files |
+//! | `settle` | the call by which all files last |
 //! | `list`, `len NAME`, `read NAME AT N` | calls that tell of files |
 //! | `faults`, `moments`, `changes` | how many there were |
 //! | `said` | what the system has refused last of a disk over the folder |

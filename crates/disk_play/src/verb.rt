@@ -24,6 +24,7 @@ pub(crate) enum Call {
     Len,
     Read,
     Change(Change),
+    Settle,
     Faults,
     Moments,
     Changes,
@@ -56,7 +57,7 @@ pub(crate) enum Outside {
     Stands,
 }
 
-const VERBS: [(&str, Verb); 26] = [
+const VERBS: [(&str, Verb); 27] = [
     ("case", Verb::Case),
     ("memory", Verb::Memory),
     ("writer", Verb::Writer),
@@ -69,6 +70,7 @@ const VERBS: [(&str, Verb); 26] = [
     ("len", Verb::Call(Call::Len)),
     ("read", Verb::Call(Call::Read)),
     ("sync", Verb::Call(Call::Change(Change::Sync))),
+    ("settle", Verb::Call(Call::Settle)),
     ("publish", Verb::Call(Call::Change(Change::Publish))),
     ("remove", Verb::Call(Call::Change(Change::Remove))),
     ("link", Verb::Call(Call::Change(Change::Link))),

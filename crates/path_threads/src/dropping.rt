@@ -55,6 +55,10 @@ impl Disk for DroppingDisk {
         Ok(())
     }
 
+    fn settle(&mut self) -> Result<(), DiskFault> {
+        Ok(())
+    }
+
     fn publish(&mut self, _name: &Name, _bytes: &[u8]) -> Result<(), DiskFault> {
         Ok(())
     }

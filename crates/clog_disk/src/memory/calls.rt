@@ -6,7 +6,7 @@ use crate::change::Change;
 use crate::disk::{Disk, DiskFault};
 use crate::memory::MemDisk;
 use crate::moved::{put_lasting, remove_file};
-use crate::stored::{append_to, names_of, part, settle_file};
+use crate::stored::{append_to, names_of, part, settle_all, settle_file};
 use clog_base::{Bytes, Name, Rows};
 use std::alloc::{AllocError, Global};
 
@@ -98,6 +98,14 @@ impl Disk for MemDisk {
             return Err(DiskFault::NoSuchFile);
         }
         settle_file(&mut self.files, &mut self.undos, name)?;
+        Ok(())
+    }
+
+    fn settle(&mut self) -> Result<(), DiskFault> {
+        if self.calls.make() {
+            return Err(DiskFault::Failed);
+        }
+        settle_all(self.alloc, &mut self.files, &mut self.undos)?;
         Ok(())
     }
 

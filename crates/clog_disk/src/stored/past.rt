@@ -55,6 +55,7 @@ fn take_back(files: &mut BTreeMap<Name, File>, undo: &Undo) -> Result<(), AllocE
         Undo::Was(name, file) => {
             files.insert(*name, file.clone()?)?;
         }
+        Undo::Were(all) => *files = all.clone()?,
     }
     Ok(())
 }

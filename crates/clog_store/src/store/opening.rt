@@ -1,7 +1,7 @@
 //! A store is opened: a folder is recovered, and a path's log begins there.
 ghost use Rattle.std.specs.Prelude.{◌≡◌, ◌<◌, ◌^◌, [], IfErr, IfOk, Some, false};
 ghost use Rattle.clog_disk.specs.Files.{Files, SameTold, Told};
-ghost use Rattle.clog_disk.specs.Images.{IsLater, LastsAll, LeavesOnly};
+ghost use Rattle.clog_disk.specs.Images.{IsLater, LeavesOnly};
 ghost use Rattle.clog_folder.specs.Passing.{IsUntouched, TellsFault};
 ghost use Rattle.path_core.specs.Keeper.{IsFresh};
 ghost use Rattle.clog_segments.specs.Filing.{AreRecoveryPuts, ComesFrom};
@@ -14,6 +14,7 @@ ghost use Rattle.clog_segments.specs.Opened.{
   OthersStay,
   RecoversAll,
   RecoversFirst,
+  WasLeftOr,
 };
 ghost use Rattle.clog_segments.specs.StoreFolder.{HoldsStore, fresh_log, no_deeds};
 ghost use Rattle.clog_segments.specs.StoreState.{HandsOver, holding_of, store_over};
@@ -61,9 +62,9 @@ impl<D: Disk> Store<D> {
     /// the disk comes back then.
     ///
     /// Whatever is answered, each file whose name is no segment's stands as it was, what came are
-    /// files that recovery puts, and the folder restores the same. Where all that was there lasted
-    /// before, so does each image of a crash meanwhile, which has no other files either; then all
-    /// lasts at the opening too.
+    /// files that recovery puts, and the folder restores the same. Each image of a crash meanwhile
+    /// is one that the disk might have left before, or restores the same and has no other files
+    /// either. At `Ok` all lasts.
     pub fn open(
         alloc: Global,
         disk: D,
@@ -81,7 +82,6 @@ impl<D: Disk> Store<D> {
             s.notes.base) }
         ensures quiet { IfOk result (λ s. D.faults s.notes.log.disk ≡ D.faults disk) }
         ensures lasted { (first : Files) → D.files disk ≡ Some first
-            → LastsAll first (D.leaves disk)
             → IfOk result (λ s. D.lasted_at s.notes.log.disk s.notes.log.opened) }
         ensures lives { IfOk result (λ s. D.lasted_at s.notes.log.disk s.notes.log.opened
             → Lives D.files D.moment D.since D.leaves D.read_at D.lasted_at s.notes.log) }
@@ -104,11 +104,11 @@ impl<D: Disk> Store<D> {
         ensures came { (first : Files) → D.files disk ≡ Some first
             → HandsOver (λ now. Told (D.files now) (AreRecoveryPuts first)) result }
         ensures any_moment { (first : Files) → D.files disk ≡ Some first
-            → LastsAll first (D.leaves disk)
-            → HandsOver (λ now. LeavesOnly D.moment D.since disk now (KeepsFolder first)) result }
+            → HandsOver (λ now. LeavesOnly D.moment D.since disk now
+            (WasLeftOr (D.leaves disk) (KeepsFolder first))) result }
         ensures images { (first : Files) → D.files disk ≡ Some first
-            → LastsAll first (D.leaves disk)
-            → HandsOver (λ now. LeavesOnly D.moment D.since disk now (ComesFrom first)) result }
+            → HandsOver (λ now. LeavesOnly D.moment D.since disk now
+            (WasLeftOr (D.leaves disk) (ComesFrom first))) result }
     {
         match SectionLog::open(alloc, disk, moment) {
             Ok(log) => Ok(Store::begin(alloc, log, sizes, archives)),

@@ -72,7 +72,7 @@ returns-clause-applies g c left left_now f h ms planned =
     let lasts = lasts_first g.D.Disk g.C.Clock left left_now f h start looked at only still opened
     c.now_ms-opened_ms.result base opening.opens opening.any_moment opening.recovers now options ms
     (least_of outcome ms)
-    (λ then files_are first is_first lasting.
+    (λ then files_are first is_first.
     subst (λ (x : Bool). LeavesShares g.D.Disk.files g.D.Disk.changes g.D.Disk.moment
     g.D.Disk.since g.D.Disk.leaves opened now (bytes_at then) base flushing x options.drain
     options.writers ms (least_of outcome ms)) archives
@@ -80,7 +80,7 @@ returns-clause-applies g c left left_now f h ms planned =
     g.D.Disk.since g.D.Disk.leaves opened now (bytes_at then) base flushing store.archives
     options.drain n ms (least_of outcome ms)) writers
     (done.shown ms then planned.plan files_are
-    (subst (g.D.Disk.lasted_at opened) opening.began (opening.lasted first is_first lasting))))) in
+    (subst (g.D.Disk.lasted_at opened) opening.began (opening.lasted first is_first))))) in
     let has_written = wrote g.D.Disk g.C.Clock left left_now f h start looked at only still opened
     c.now_ms-opened_ms.result base opening.opens opening.any_moment opening.recovers now options ms
     (subst (λ (x : Bool). WritesShares g.D.Disk.files g.D.Disk.changes opened now base flushing x

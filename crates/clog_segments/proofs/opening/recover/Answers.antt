@@ -4,10 +4,11 @@ use Rattle.clog_disk.specs.Files.{Files, SameTold}
 use Rattle.clog_disk.proofs.Moments.{later_still}
 use Rattle.clog_disk.proofs.Telling.{same_told_self}
 use Rattle.clog_segments.specs.Live.{IsLogOf}
-use Rattle.clog_segments.specs.Opened.{RecoversAll, RecoversFirst}
+use Rattle.clog_segments.specs.Filing.{ComesFrom}
+use Rattle.clog_segments.specs.Opened.{KeepsFolder, RecoversAll, RecoversFirst}
 use Rattle.clog_segments.proofs.Changed.{only_puts, put_none}
 use Rattle.clog_segments.proofs.Kept.{if_told}
-use Rattle.clog_segments.proofs.LooksFirst.{from_on, keeps_on, looks_from, looks_keep, told_on}
+use Rattle.clog_segments.proofs.LooksFirst.{left_on, looks_left, told_on}
 use Rattle.clog_segments.proofs.OpenedWhole.{
   alone_of,
   at_rest,
@@ -17,8 +18,6 @@ use Rattle.clog_segments.proofs.OpenedWhole.{
   has_rows,
   is_opened,
   known_above,
-  known_settled,
-  lasts_on,
   step_alone,
   step_refused,
   still_keeps,
@@ -43,8 +42,8 @@ returns-in-Err-clause-keeps g c first is =
     c.look.ensures.keeps.same.files
 
 pub returns-in-Err-clause-any_moment : goal.returns-in-Err-clause-any_moment
-returns-in-Err-clause-any_moment g c first is lasts =
-    looks_keep c.look.ensures.keeps g.met.D.Disk.only_now first lasts
+returns-in-Err-clause-any_moment g c first is =
+    looks_left c.look.ensures.keeps g.met.D.Disk.only_now (KeepsFolder first)
 
 -- ---- it is
 
@@ -79,11 +78,9 @@ returns-in-Ok-recover_folder-clause-keeps g c first is =
 
 pub returns-in-Ok-recover_folder-clause-any_moment :
     goal.returns-in-Ok-recover_folder-clause-any_moment
-returns-in-Ok-recover_folder-clause-any_moment g c first is lasts =
-    keeps_on c.look.ensures.keeps g.met.D.Disk.only_now first lasts (λ yet.
-    c.recover_folder.ensures.any_moment first (c.look.ensures.keeps.same.files ∙ is)
-    (known_settled first (g.D.Disk.files c.args.disk.now) is c.args.moment c.in-Ok.known
-    c.in-Ok.ensures.looks _ yet))
+returns-in-Ok-recover_folder-clause-any_moment g c first is =
+    left_on c.look.ensures.keeps g.met.D.Disk.only_now
+    (c.recover_folder.ensures.any_moment first (c.look.ensures.keeps.same.files ∙ is))
 
 -- ---- its recovery is refused
 
@@ -108,11 +105,9 @@ returns-clause-keeps g c first is =
     (c.recover_folder.ensures.same first (c.look.ensures.keeps.same.files ∙ is))
 
 pub returns-clause-any_moment : goal.returns-clause-any_moment
-returns-clause-any_moment g c first is lasts =
-    keeps_on c.look.ensures.keeps g.met.D.Disk.only_now first lasts (λ yet.
-    c.recover_folder.ensures.any_moment first (c.look.ensures.keeps.same.files ∙ is)
-    (known_settled first (g.D.Disk.files c.args.disk.now) is c.args.moment c.in-Ok.known
-    c.in-Ok.ensures.looks _ yet))
+returns-clause-any_moment g c first is =
+    left_on c.look.ensures.keeps g.met.D.Disk.only_now
+    (c.recover_folder.ensures.any_moment first (c.look.ensures.keeps.same.files ∙ is))
 
 pub returns-in-Ok-recover_folder-clause-opens : goal.returns-in-Ok-recover_folder-clause-opens
 returns-in-Ok-recover_folder-clause-opens g c =
@@ -142,18 +137,13 @@ returns-in-Ok-recover_folder-clause-rests g c first is =
     (c.in-Ok-recover_folder.ensures.files first is_mid c.in-Ok.known.base
     (known_above first (D.files c.args.disk.now) is c.args.moment c.in-Ok.known
     c.in-Ok.ensures.looks))
-    (c.recover_folder.ensures.same first is_mid)
+    (c.in-Ok-recover_folder.ensures.settles first is_mid)
 
 pub returns-in-Ok-recover_folder-clause-lasts : goal.returns-in-Ok-recover_folder-clause-lasts
-returns-in-Ok-recover_folder-clause-lasts g c first is lasts =
+returns-in-Ok-recover_folder-clause-lasts g c first is =
     let D = g.D.Disk in
-    let old = c.args.disk.now in
-    let mid = c.look.new.disk in
     exact_told (D.files c.recover_folder.new.disk) (D.leaves c.recover_folder.new.disk)
-    (c.in-Ok-recover_folder.ensures.settles first (c.look.ensures.keeps.same.files ∙ is)
-    (known_settled first (D.files old) is c.args.moment c.in-Ok.known c.in-Ok.ensures.looks
-    (D.leaves mid) (lasts_on first (D.leaves old) (D.leaves mid) lasts
-    c.look.ensures.keeps.same.images.fewer)))
+    (c.in-Ok-recover_folder.ensures.settles first (c.look.ensures.keeps.same.files ∙ is))
 
 pub returns-in-Ok-recover_folder-clause-restored : goal.returns-in-Ok-recover_folder-clause-restored
 returns-in-Ok-recover_folder-clause-restored g c first is =
@@ -235,15 +225,15 @@ returns-clause-came g c first is =
 -- ---- what an image holds
 
 pub returns-in-Err-clause-images : goal.returns-in-Err-clause-images
-returns-in-Err-clause-images g c first is lasts =
-    looks_from c.look.ensures.keeps g.met.D.Disk.only_now first lasts
+returns-in-Err-clause-images g c first is =
+    looks_left c.look.ensures.keeps g.met.D.Disk.only_now (ComesFrom first)
 
 pub returns-in-Ok-recover_folder-clause-images : goal.returns-in-Ok-recover_folder-clause-images
-returns-in-Ok-recover_folder-clause-images g c first is lasts =
-    from_on c.look.ensures.keeps g.met.D.Disk.only_now first lasts
+returns-in-Ok-recover_folder-clause-images g c first is =
+    left_on c.look.ensures.keeps g.met.D.Disk.only_now
     (c.recover_folder.ensures.from first (c.look.ensures.keeps.same.files ∙ is))
 
 pub returns-clause-images : goal.returns-clause-images
-returns-clause-images g c first is lasts =
-    from_on c.look.ensures.keeps g.met.D.Disk.only_now first lasts
+returns-clause-images g c first is =
+    left_on c.look.ensures.keeps g.met.D.Disk.only_now
     (c.recover_folder.ensures.from first (c.look.ensures.keeps.same.files ∙ is))

@@ -21,11 +21,11 @@ begin-requires g c =
     }
 
 pub returns-in-Ok-clause-lasted : goal.returns-in-Ok-clause-lasted
-returns-in-Ok-clause-lasted g c first is lasts =
+returns-in-Ok-clause-lasted g c first is =
     let D = g.D.Disk in
     let disk = c.recover.new.disk in
     let has = lasted_now (D.files disk) (D.leaves disk) (D.lasted_at disk (D.moment disk))
-    (g.met.D.Disk.lasts_now disk) (c.in-Ok.ensures.lasts first is lasts) in
+    (g.met.D.Disk.lasts_now disk) (c.in-Ok.ensures.lasts first is) in
     subst (λ d. D.lasted_at d c.begin.result.opened) (sym c.begin.ensures.disk)
     (subst (λ (t : ℕ). D.lasted_at disk t) (sym c.begin.ensures.opened) has)
 
