@@ -2,7 +2,7 @@
 use Rattle.std.proofs.Common.{◌≡◌, ◌+◌, List, [], ◌∷◌, ◌++◌, map, Option, Some, None, Contains}
 use Rattle.std.proofs.Common.{IfSome, IsPermutation, refl, sym, ap, subst, ◌∙◌, inl, inr, arith}
 use Rattle.std.proofs.Common.{length-append}
-use Rattle.std.proofs.lemmas.List.{append-nil, map-append}
+use Rattle.std.proofs.lemmas.List.{append-nil, flat_map_more, map-append}
 use Rattle.std.proofs.lemmas.List.Elements.{Contains-append_cases, Contains-append_left}
 use Rattle.std.proofs.lemmas.List.Elements.{Contains-append_right}
 use Rattle.std.proofs.lemmas.List.Sorted.{Contains-permutation, IsPermutation-map}
@@ -16,17 +16,23 @@ use Rattle.clog_folder.specs.Folder.{PlacedPayload}
 use Rattle.clog_folder.specs.Listing.{Picks}
 use Rattle.clog_folder.proofs.EntriesCounted.{picks_both}
 use Rattle.replay_merge.specs.declared.merged.Merged.{Merged}
-use Rattle.replay_merge.specs.declared.piped.Entry.{Entry}
+use Rattle.replay_merge.specs.declared.piped.Batch.{Batch}
+use Rattle.replay_merge.specs.Entries.{Entry, all_items, items_of}
 use Rattle.replay_merge.specs.declared.piped.Piped.{Piped}
 use Rattle.replay_merge.specs.declared.piped.Refused.{Refused}
 use Rattle.replay_merge.specs.Merged.{KeyedUpdate, Takes, updates_of}
 use Rattle.replay_merge.specs.Piped.{IsDone, IsFirstOf, IsFirstOfBoth, IsLeastRefused, IsGood}
 use Rattle.replay_merge.specs.Piped.{IsGoodOrBehind, IsRefusal, IsRefusedAs, IsUpTo, JoinsPiped}
-use Rattle.replay_merge.specs.Piped.{TakesPiped, TakesRefused, placed_of}
+use Rattle.replay_merge.specs.Piped.{TakesItems, TakesPiped, TakesRefused, placed_of}
 use Rattle.replay_merge.specs.Taking.{IsTakenOf, TakesLog}
-use Rattle.replay_merge.proofs.Reordered.{moved_by, order_of, picks_moved, taken_in_any_order}
+use Rattle.replay_merge.proofs.Reordered.{flat_order, moved_by, order_of, picks_moved}
+use Rattle.replay_merge.proofs.Reordered.{taken_in_any_order}
 use Rattle.replay_merge.proofs.NoneTaken.{none_taken}
 use Rattle.replay_merge.proofs.Taken.{taken_both, taken_more}
+
+pub one_batch_more : (batches : List Batch) (b : Batch)
+    → all_items batches ++ items_of b ≡ all_items (batches ++ b ∷ [])
+one_batch_more batches b = flat_map_more items_of [] batches b
 
 -- ---- refusals
 
@@ -178,9 +184,17 @@ module _ (tables : List TableHeld) where
     first = first_joined items more a.refused b.refused c.refused one.first two.first join.first;
   }
 
+  -- a batch is taken in behind others
+  pub batch_more : (batches : List Batch) (b : Batch) (old new : Piped)
+      → TakesItems tables (items_of b) old new → IsDone tables (all_items batches) old
+      → IsDone tables (all_items (batches ++ b ∷ [])) new
+  batch_more batches b old new takes is =
+      subst (λ (es : List Entry). IsDone tables es new) (one_batch_more batches b)
+      (takes (all_items batches) is)
+
   -- an entry that is refused
   pub refused_so : (e : Entry) (fault : PayloadFault) (old new : Piped)
-      → IsRefusal e.payload.items (Some fault)
+      → IsRefusal e.payload (Some fault)
       → IsFirstOf old.refused (record { id = e.id; start = e.start; fault = fault }) new.refused
       → new.merged ≡ old.merged → new.entries ≡ old.entries → TakesPiped tables e old new
   refused_so e fault old new is first merged entries = inr (record {
@@ -206,7 +220,15 @@ module _ (tables : List TableHeld) where
         first = first_reordered items other s.refused order is.first;
       }
 
-  pub any_order : (r : Option Piped) (taken items : List Entry) → IsPermutation taken items
+  any_order : (r : Option Piped) (taken items : List Entry) → IsPermutation taken items
       → IfSome r (λ s. IsDone tables taken s) → IfSome r (IsDone tables items)
   any_order None taken items order is = tt
   any_order (Some s) taken items order is = reordered s taken items order is
+
+  -- the same of batches
+  pub batches_in_any_order : (r : Option Piped) (taken batches : List Batch)
+      → IsPermutation taken batches → IfSome r (λ s. IsDone tables (all_items taken) s)
+      → IfSome r (IsDone tables (all_items batches))
+  batches_in_any_order r taken batches order =
+      any_order r (all_items taken) (all_items batches)
+      (flat_order items_of taken batches (moved_by taken batches order))

@@ -17,7 +17,7 @@ use Rattle.clog_folder.specs.Entries.{EndsWell, IsGoodIn}
 use Rattle.clog_folder.specs.Folder.{payloads_of, placed}
 use Rattle.clog_folder.specs.Listing.{Picks}
 use Rattle.clog_folder.specs.Segments.{AreHeld, IsHeldAt, Row, SegmentHeld}
-use Rattle.replay_merge.specs.declared.piped.Entry.{Entry as Item}
+use Rattle.replay_merge.specs.Entries.{Entry as Item}
 use Rattle.replay_merge.specs.Piped.{IsGood, placed_of}
 use Rattle.replay_merge.specs.Places.{AreGiven, IsGivenAt}
 use Rattle.replay_merge.specs.Streaming.{IsReadOf, entry_in}

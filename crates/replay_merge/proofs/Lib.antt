@@ -6,6 +6,7 @@ pub mod Picked
 pub mod PlacesRead
 pub mod Reordered
 pub mod Replayed
+pub mod Rounds
 pub mod Settled
 pub mod Stopped
 pub mod Streamed

@@ -6,7 +6,7 @@ use Rattle.clog_disk.specs.Files.{Files}
 use Rattle.clog_folder.specs.declared.fault.OpenFault.{OpenFault}
 use Rattle.clog_folder.specs.declared.tables.TableHeld.{TableHeld}
 use Rattle.clog_folder.specs.Segments.{Row}
-use Rattle.replay_merge.specs.declared.piped.Entry.{Entry as Item}
+use Rattle.replay_merge.specs.Entries.{Entry as Item}
 use Rattle.replay_merge.specs.declared.piped.Piped.{Piped}
 use Rattle.replay_merge.specs.Logged.{AreLogged, IsLogged, IsTop}
 use Rattle.replay_merge.specs.Piped.{IsDone, IsGood, IsLeastRefused, placed_of}

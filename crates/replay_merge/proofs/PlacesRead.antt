@@ -2,6 +2,7 @@
 use Rattle.std.proofs.Common.{◌≡◌, ℕ, ◌≤◌, ◌==◌, List, [], ◌∷◌, ◌++◌, Bool, Option, Some, None, Ok}
 use Rattle.std.proofs.Common.{Err, IfSome, Result, refl, sym, ap, subst, ◌∙◌, inl, inr, arith}
 use Rattle.std.proofs.Common.{append_assoc}
+use Rattle.std.proofs.lemmas.Grind.{flat_map-append}
 use Rattle.std.proofs.lemmas.List.{append-nil}
 use Rattle.clog_base.specs.declared.fault.Quantity.TheVariants.{SegmentBytes}
 use Rattle.clog_disk.specs.Files.{Files}
@@ -10,7 +11,8 @@ use Rattle.clog_folder.specs.declared.fault.OpenFault.{OpenFault}
 use Rattle.clog_folder.specs.declared.fault.OpenFault.TheVariants as fault
 use Rattle.clog_folder.specs.Entries.{JudgesEnd}
 use Rattle.clog_folder.specs.Segments.{IsGreatestId, IsTooLong, Row}
-use Rattle.replay_merge.specs.declared.piped.Entry.{Entry as Item}
+use Rattle.replay_merge.specs.declared.piped.Batch.{Batch}
+use Rattle.replay_merge.specs.Entries.{Entry as Item, all_items, items_of}
 use Rattle.replay_merge.specs.Places.{AreGiven, GivesLength, GivesPlace, GivesPlaces, IsGivenAt}
 use Rattle.replay_merge.specs.Places.{IsLongAt, IsTornBehind, PassesOther, StopsAt}
 use Rattle.replay_merge.specs.Streaming.{IsReadOf, Streams}
@@ -110,7 +112,7 @@ pub none_given : (ignore : Bool) (greatest : ℕ) (files : Option Files)
 none_given ignore greatest files =
     told files (λ held. AreGiven ignore greatest held [] []) (λ held. refl)
 
-pub given_more : (ignore : Bool) (greatest : ℕ) (files now : Option Files) (rows : List Row)
+given_more : (ignore : Bool) (greatest : ℕ) (files now : Option Files) (rows : List Row)
     (row : Row) (items here : List Item) → now ≡ files
     → IfSome files (λ held. AreGiven ignore greatest held rows items)
     → IfSome now (λ held. IsGivenAt ignore (row.0.0 == greatest) held row here)
@@ -120,6 +122,20 @@ given_more ignore greatest (Some files) now rows row items here same given is =
     one_more ignore greatest files rows row items here given
     (subst (λ (o : Option Files). IfSome o (λ held.
     IsGivenAt ignore (row.0.0 == greatest) held row here)) same is)
+
+-- the same of batches
+pub batches_more : (ignore : Bool) (greatest : ℕ) (files now : Option Files) (rows : List Row)
+    (row : Row) (batches here : List Batch) → now ≡ files
+    → IfSome files (λ held. AreGiven ignore greatest held rows (all_items batches))
+    → IfSome now (λ held. IsGivenAt ignore (row.0.0 == greatest) held row (all_items here))
+    → IfSome files
+    (λ held. AreGiven ignore greatest held (rows ++ row ∷ []) (all_items (batches ++ here)))
+batches_more ignore greatest files now rows row batches here same given is =
+    subst (λ (es : List Item). IfSome files
+    (λ held. AreGiven ignore greatest held (rows ++ row ∷ []) es))
+    (sym (flat_map-append items_of batches here))
+    (given_more ignore greatest files now rows row (all_items batches) (all_items here) same given
+    is)
 
 -- why the next place is not read, by the disk as it was
 module _ (ignore : Bool) (greatest : ℕ) (rows front left rest : List Row) (row : Row)

@@ -107,7 +107,7 @@ order_of (a ∷ b ∷ xs) (c ∷ d ∷ ys) (turn e f m) =
 order_of xs zs (next ys m n) =
     IsPermutation-trans xs ys zs (order_of xs ys m) (order_of ys zs n)
 
-flat_order : {A B : Type 0} (f : A → List B) (xs ys : List A) → Moved xs ys
+pub flat_order : {A B : Type 0} (f : A → List B) (xs ys : List A) → Moved xs ys
     → IsPermutation (flat_map f xs) (flat_map f ys)
 flat_order f [] [] none = IsPermutation-refl []
 flat_order f (a ∷ xs) (b ∷ ys) (skip e m) =

@@ -35,7 +35,7 @@ use Rattle.clog_folder.proofs.Counting.{picks_all}
 use Rattle.clog_folder.proofs.EntriesCounted.{picks_have}
 use Rattle.clog_folder.proofs.FolderRead.{is_read_as}
 use Rattle.replay_merge.specs.declared.merged.Merged.{Merged}
-use Rattle.replay_merge.specs.declared.piped.Entry.{Entry as Item}
+use Rattle.replay_merge.specs.Entries.{Entry as Item}
 use Rattle.replay_merge.specs.declared.piped.Piped.{Piped}
 use Rattle.replay_merge.specs.declared.restoring.Restored.{Restored}
 use Rattle.replay_merge.specs.Merged.{IsMergedOf, IsSkippedBy, KeyedUpdate, keyed, pair_at}

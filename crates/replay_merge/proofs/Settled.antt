@@ -21,7 +21,7 @@ use Rattle.clog_folder.specs.Listing.{AreRows, IsSegmentAt, Picks, segment_cmp}
 use Rattle.clog_folder.specs.Segments.{IsDamagedFirst, IsFirstLong, IsGreatestId, Row}
 use Rattle.clog_folder.specs.Segments.{SegmentsRefused}
 use Rattle.clog_folder.proofs.SegmentsRead.{long_first}
-use Rattle.replay_merge.specs.declared.piped.Entry.{Entry as Item}
+use Rattle.replay_merge.specs.Entries.{Entry as Item}
 use Rattle.replay_merge.specs.declared.piped.Piped.{Piped}
 use Rattle.replay_merge.specs.declared.piped.Refused.{Refused}
 use Rattle.replay_merge.specs.Piped.{IsDone, IsGood, IsGoodOrBehind, IsLeastRefused, IsRefusedAs}

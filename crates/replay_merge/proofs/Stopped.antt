@@ -29,7 +29,7 @@ use Rattle.clog_folder.specs.Segments.{IsDamagedAt, IsDamagedFirst, IsGreatestId
 use Rattle.clog_folder.proofs.PairOrder.{IsLess, less_pair}
 use Rattle.clog_folder.proofs.Rows.{is_above_first, row_of, segment_places}
 use Rattle.clog_folder.proofs.SegmentsRead.{damaged_first}
-use Rattle.replay_merge.specs.declared.piped.Entry.{Entry as Item}
+use Rattle.replay_merge.specs.Entries.{Entry as Item}
 use Rattle.replay_merge.specs.declared.piped.Refused.{Refused}
 use Rattle.replay_merge.specs.Piped.{IsGood, IsGoodOrBehind, IsRefusedAs}
 use Rattle.replay_merge.specs.Places.{AreGiven, IsGivenAt, IsTornBehind}
@@ -60,7 +60,7 @@ module _ (file : List ℕ) (id : ℕ) where
   first_in from place (x ∷ xs) e r lays there is least = elim (first_or_further x xs e there) [
     | inl same ↦ inl (
       is.start ∙ sym (ap (λ (y : Item). y.start) same),
-      subst (λ (y : Item). IsRefused y.payload.items r.fault) (sym same) is.fault,
+      subst (λ (y : Item). IsRefused y.payload r.fault) (sym same) is.fault,
     )
     | inr more ↦ elim (least x (here x xs)) [
       | inl good ↦ inr (

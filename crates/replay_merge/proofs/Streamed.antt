@@ -24,9 +24,10 @@ use Rattle.clog_scan.specs.Pieces.{entry_of}
 use Rattle.clog_scan.specs.Segment.{Entry, IsSegment}
 use Rattle.clog_scan.specs.Walks.{Feeds, HasScanned}
 use Rattle.clog_folder.specs.Passing.{fault_of}
-use Rattle.replay_merge.specs.declared.piped.Entry.{Entry as Item}
+use Rattle.replay_merge.specs.declared.piped.Batch.{Batch}
+use Rattle.replay_merge.specs.Entries.{Entry as Item, all_items, item_of}
 use Rattle.replay_merge.specs.Streaming.{HasStreamed, IsReadOf, Streams, StreamsSo, entry_in}
-use Rattle.replay_merge.specs.Streaming.{item_of}
+use Rattle.replay_merge.proofs.DoneSo.{one_batch_more}
 
 pub starts_so : (files : Option Files) (name : List ℕ) (len : ℕ) (s : Scanner)
     → IsLength files name len → s.fed ≡ 0
@@ -63,7 +64,7 @@ piece_is files name len s items at count piece so at_is read =
     ∙ ap (λ (l : List ℕ). take count (drop (length so.front) l)) (held ∙ so.parts)
     ∙ ap (take count) (drop-append_seam so.front so.rest)
 
-pub streams_more : (files : Option Files) (name : List ℕ) (len : ℕ) (old new : Scanner)
+streams_more : (files : Option Files) (name : List ℕ) (len : ℕ) (old new : Scanner)
     (items : List Item) (id at count : ℕ) (piece : List ℕ) (wholes : List Whole)
     → HasStreamed files name len old items → id ≡ old.id → at ≡ old.fed
     → Reads files name at count piece → IsBytes piece → Feeds old new piece wholes
@@ -109,6 +110,17 @@ streams_more (Some files) name len old new items id at count piece wholes so is_
             sym (ap (λ (x : Item). x.id) from.2) ∙ is_id ∙ sym feeds.same_id
       ];
     }
+
+-- what a piece gives is one batch more
+pub batch_streams : (files : Option Files) (name : List ℕ) (len : ℕ) (old new : Scanner)
+    (batches : List Batch) (b : Batch) (at count : ℕ) (piece : List ℕ)
+    → HasStreamed files name len old (all_items batches) → b.id ≡ old.id → at ≡ old.fed
+    → Reads files name at count piece → IsBytes piece → Feeds old new piece b.wholes.items
+    → HasStreamed files name len new (all_items (batches ++ b ∷ []))
+batch_streams files name len old new batches b at count piece so is_id at_is read bytes feeds =
+    subst (HasStreamed files name len new) (one_batch_more batches b)
+    (streams_more files name len old new (all_items batches) b.id at count piece b.wholes.items so
+    is_id at_is read bytes feeds)
 
 -- the file is not gone while it is read
 no_such_file : (files now : Option Files) (name : List ℕ) (len : ℕ) (T : Type 0)

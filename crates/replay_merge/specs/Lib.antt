@@ -1,4 +1,5 @@
 pub mod Alone
+pub mod Entries
 pub mod Logged
 pub mod Merged
 pub mod Piped

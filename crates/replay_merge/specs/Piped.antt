@@ -1,6 +1,6 @@
 -- What entries come to that are taken in any order.
 use Rattle.std.specs.Prelude.{◌≡◌, ◌⊎◌, ℕ, ◌+◌, ◌<◌, ◌≤◌, List, length, map, Option, Some, None}
-use Rattle.std.specs.Prelude.{Contains, ⊤}
+use Rattle.std.specs.Prelude.{◌++◌, Contains, ⊤}
 use Rattle.clog_base.specs.declared.fault.PayloadFault.{PayloadFault}
 use Rattle.clog_mutation.specs.declared.mutation.Mutation.{Mutation}
 use Rattle.clog_mutation.specs.Refusals.{IsRefused}
@@ -8,7 +8,7 @@ use Rattle.clog_mutation.specs.Stored.{IsPayload}
 use Rattle.clog_folder.specs.declared.tables.TableHeld.{TableHeld}
 use Rattle.clog_folder.specs.Folder.{PlacedPayload}
 use Rattle.clog_folder.specs.Listing.{Picks}
-use Rattle.replay_merge.specs.declared.piped.Entry.{Entry}
+use Rattle.replay_merge.specs.Entries.{Entry}
 use Rattle.replay_merge.specs.declared.piped.Piped.{Piped}
 use Rattle.replay_merge.specs.declared.piped.Refused.{Refused}
 use Rattle.replay_merge.specs.Merged.{IsJoin, Takes, keyed}
@@ -16,16 +16,16 @@ use Rattle.replay_merge.specs.Taking.{IsTakenOf}
 
 -- the payload, where its entry ends
 abbrev pub placed_of : Entry → PlacedPayload
-placed_of e = (record { id = e.id; offset = e.end }, e.payload.items)
+placed_of e = (record { id = e.id; offset = e.end }, e.payload)
 
 abbrev pub IsGood : Entry → Type 0
-IsGood e = (mutation : Mutation) × IsPayload e.payload.items mutation
+IsGood e = (mutation : Mutation) × IsPayload e.payload mutation
 
 -- the entry is this one, and its payload is refused so
 pub record IsRefusedAs (e : Entry) (r : Refused) : Type 0 where
   pub id : r.id ≡ e.id
   pub start : r.start ≡ e.start
-  pub fault : IsRefused e.payload.items r.fault
+  pub fault : IsRefused e.payload r.fault
 
 -- by id and place
 abbrev pub IsUpTo : ℕ → ℕ → ℕ → ℕ → Type 0
@@ -94,9 +94,14 @@ pub record TakesRefused (e : Entry) (old new : Piped) : Type 0 where
   pub entries : new.entries ≡ old.entries
   pub first : IsFirstOf old.refused r new.refused
 
+-- these are taken in behind whatever was
+abbrev pub TakesItems : List TableHeld → List Entry → Piped → Piped → Type 0
+TakesItems tables items old new =
+    (before : List Entry) → IsDone tables before old → IsDone tables (before ++ items) new
+
 -- an entry is taken in, one way or the other
 abbrev pub TakesPiped : List TableHeld → Entry → Piped → Piped → Type 0
 TakesPiped tables e old new =
-    ((mutation : Mutation) × IsPayload e.payload.items mutation
+    ((mutation : Mutation) × IsPayload e.payload mutation
     × TakesGood tables e mutation old new)
     ⊎ TakesRefused e old new

@@ -16,7 +16,7 @@ use Rattle.clog_folder.specs.declared.fault.OpenFault.TheVariants as fault
 use Rattle.clog_folder.specs.Entries.{EndsWell}
 use Rattle.clog_folder.specs.Listing.{SegmentPlace}
 use Rattle.clog_folder.specs.Segments.{BytesRefused, IsGreatestId, IsTooLong, Row}
-use Rattle.replay_merge.specs.declared.piped.Entry.{Entry as Item}
+use Rattle.replay_merge.specs.Entries.{Entry as Item}
 use Rattle.replay_merge.specs.Streaming.{IsReadOf}
 
 -- ---- one place

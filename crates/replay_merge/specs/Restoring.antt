@@ -13,7 +13,7 @@ use Rattle.clog_folder.specs.Folder.{CanBeRead, FolderRefused, Say}
 use Rattle.clog_folder.specs.Listing.{Picks}
 use Rattle.clog_folder.specs.Tables.{read_of}
 use Rattle.replay_merge.specs.declared.merged.Merged.{Merged}
-use Rattle.replay_merge.specs.declared.piped.Entry.{Entry as Item}
+use Rattle.replay_merge.specs.Entries.{Entry as Item}
 use Rattle.replay_merge.specs.declared.restoring.Restored.{Restored}
 use Rattle.replay_merge.specs.Merged.{IsMergedOf, updates_of}
 use Rattle.replay_merge.specs.Piped.{IsGood, placed_of}

@@ -10,7 +10,7 @@ use Rattle.clog_folder.specs.declared.fault.OpenFault.{OpenFault}
 use Rattle.clog_folder.specs.declared.fault.OpenFault.TheVariants as fault
 use Rattle.clog_folder.specs.declared.tables.TableHeld.{TableHeld}
 use Rattle.clog_folder.specs.Segments.{Row, SegmentsRefused}
-use Rattle.replay_merge.specs.declared.piped.Entry.{Entry as Item}
+use Rattle.replay_merge.specs.Entries.{Entry as Item}
 use Rattle.replay_merge.specs.declared.piped.Piped.{Piped}
 use Rattle.replay_merge.specs.declared.piped.Refused.{Refused}
 use Rattle.replay_merge.specs.Piped.{IsDone}

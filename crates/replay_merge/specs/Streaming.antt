@@ -15,15 +15,11 @@ use Rattle.clog_scan.specs.Segment.{Entry, IsSegment}
 use Rattle.clog_scan.specs.Walks.{Feeds, HasScanned}
 use Rattle.clog_folder.specs.declared.fault.OpenFault.{OpenFault}
 use Rattle.clog_folder.specs.declared.fault.OpenFault.TheVariants.{Disk, OutOfMemory}
-use Rattle.replay_merge.specs.declared.piped.Entry.{Entry as Item}
-
--- an entry that was read, as an item of the segment of an id
-abbrev pub item_of : ℕ → Whole → Item
-item_of id w = record { id = id; start = w.start; end = w.end; payload = w.payload }
+use Rattle.replay_merge.specs.Entries.{Entry as Item}
 
 -- the entry of an item
 abbrev pub entry_in : Item → Entry
-entry_in e = record { start = e.start; end = e.end; payload = e.payload.items }
+entry_in e = record { start = e.start; end = e.end; payload = e.payload }
 
 -- The file is there under the name, has no more bytes than a segment may have, and is the segment
 -- of an id: its entries are these items, in their order, and it ends so.

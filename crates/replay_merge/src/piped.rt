@@ -5,19 +5,16 @@ ghost use Rattle.replay_merge.specs.Piped.{IsDone};
 
 use crate::merged::Merged;
 use clog_base::PayloadFault;
+use clog_scan::Whole;
 use std::alloc::Global;
 
-/// An entry of the log: its segment's id, its range there, in bytes, and its payload.
+/// Entries of a segment that end in one piece of its file.
 #[derive(Drop)]
-pub struct Entry {
-    /// The id of its segment.
+pub struct Batch {
+    /// The id of the segment.
     pub id: u64,
-    /// Where the entry begins.
-    pub start: u32,
-    /// Where it ends, exclusive: the offset of its position.
-    pub end: u32,
-    /// Its payload, which need not be a mutation's.
-    pub payload: Vec<u8>,
+    /// The entries, whose payloads need not be mutations'.
+    pub wholes: Vec<Whole>,
 }
 
 /// An entry whose payload is no mutation's: where it begins, and why.

@@ -2,16 +2,19 @@
 //! kept.
 ghost use Rattle.std.specs.Prelude.{◌↔◌, ◌≤◌, IfSome, IsTrue, List, OnOk};
 ghost use Rattle.clog_mutation.specs.Lent.{mutation_lent};
-ghost use Rattle.replay_merge.specs.declared.piped.Entry.{Entry as log_entry};
+ghost use Rattle.replay_merge.specs.declared.piped.Batch.{Batch as read_batch};
+ghost use Rattle.replay_merge.specs.Entries.{all_items, item_of};
 ghost use Rattle.replay_merge.specs.Piped.{IsDone, IsFirstOf, IsFirstOfBoth, IsRefusal, IsUpTo};
 ghost use Rattle.replay_merge.specs.Piped.{JoinsPiped, TakesGood, TakesPiped};
 
-use crate::piped::{Entry, Piped, Refused};
+use crate::batching::take_batch;
+use crate::piped::{Batch, Piped, Refused};
 use crate::taking::take_mutation;
 use clog_base::{OutOfMemory, PayloadFault, Position, Writer};
 use clog_folder::TableHeld;
 use clog_io::{Gate, Point};
 use clog_mutation::{LentMutation, check, lend};
+use clog_scan::Whole;
 use replay_queue::{Queue, Source, Work, run};
 use std::alloc::{AllocError, Global};
 use std::marker::Sync;
@@ -53,18 +56,19 @@ fn take_good(
     alloc: Global,
     tables: &[TableHeld],
     state: &mut Piped,
-    entry: &Entry,
+    id: u64,
+    whole: &Whole,
     mutation: &LentMutation<'_>,
 ) -> Result<(), OutOfMemory>
-    ensures { OnOk result (TakesGood tables.now entry.now (mutation_lent mutation.now) state.old
+    ensures { OnOk result (TakesGood tables.now (item_of id whole.now) (mutation_lent mutation.now) state.old
         state.new) }
 {
     let Some(entries) = state.entries.checked_add(1) else {
         return Err(OutOfMemory);
     };
     let at = Position {
-        id: entry.id,
-        offset: entry.end,
+        id,
+        offset: whole.end,
     };
     take_mutation(alloc, tables, &mut state.merged, at, mutation)?;
     state.entries = entries;
@@ -114,44 +118,42 @@ pub(crate) fn take_piped(
     alloc: Global,
     tables: &[TableHeld],
     state: &mut Piped,
-    entry: &Entry,
+    id: u64,
+    whole: &Whole,
 ) -> Result<bool, OutOfMemory>
-    ensures { OnOk result (TakesPiped tables.now entry.now state.old state.new) }
+    ensures { OnOk result (TakesPiped tables.now (item_of id whole.now) state.old state.new) }
 {
-    let Ok(mutation) = lend(alloc, entry.payload.as_slice()) else {
-        let Some(fault) = refusal(entry.payload.as_slice()) else {
+    let Ok(mutation) = lend(alloc, whole.payload.as_slice()) else {
+        let Some(fault) = refusal(whole.payload.as_slice()) else {
             return Err(OutOfMemory);
         };
         let refused = Refused {
-            id: entry.id,
-            start: entry.start,
+            id,
+            start: whole.start,
             fault,
         };
         state.refused = first_of(state.refused, refused);
         return Ok(false);
     };
-    take_good(alloc, tables, state, entry, &mutation)?;
+    take_good(alloc, tables, state, id, whole, &mutation)?;
     Ok(true)
 }
 
-impl<'a, G: Gate> Work<Entry, Piped> for Piping<'a, G> {
+impl<'a, G: Gate> Work<Batch, Piped> for Piping<'a, G> {
+    ghost use Rattle.replay_merge.specs.Entries.{all_items};
     ghost use Rattle.replay_merge.specs.Piped.{IsDone};
 
-    ghost done = { λ w s items. IsDone w.tables.now items s };
+    ghost done = { λ w s batches. IsDone w.tables.now (all_items batches) s };
 
     fn begin(&self) -> Piped {
         Piped::new(self.alloc)
     }
 
-    fn take(&self, state: &mut Piped, worker: Option<u8>, item: Entry) -> Result<(), AllocError> {
-        let Ok(merged) = take_piped(self.alloc, self.tables, state, &item) else {
-            return Err(AllocError);
-        };
-        // Of what the thread that pushes has taken nothing is told.
-        if let (true, Some(worker)) = (merged, worker) {
-            self.gate.reached(Writer(worker), Point::Deposited);
+    fn take(&self, state: &mut Piped, worker: Option<u8>, item: Batch) -> Result<(), AllocError> {
+        match take_batch(self, state, worker, &item) {
+            Ok(()) => Ok(()),
+            Err(OutOfMemory) => Err(AllocError),
         }
-        Ok(())
     }
 
     fn join(&self, state: &mut Piped, other: Piped) -> Result<(), AllocError> {
@@ -172,10 +174,10 @@ impl<'a, G: Gate> Work<Entry, Piped> for Piping<'a, G> {
 
 /// Decodes and merges all entries of a source, by so many workers and by the caller, who takes them
 /// where the queue is full. None where memory was refused to a thread.
-pub(crate) fn pipe<R: Threads + Wait + Sync, O, G: Gate + Sync, F: Source<Entry, O> + Drop>(
+pub(crate) fn pipe<R: Threads + Wait + Sync, O, G: Gate + Sync, F: Source<Batch, O> + Drop>(
     rt: &R,
     alloc: Global,
-    queue: Queue<Entry>,
+    queue: Queue<Batch>,
     tables: &[TableHeld],
     source: F,
     workers: u8,
@@ -183,8 +185,8 @@ pub(crate) fn pipe<R: Threads + Wait + Sync, O, G: Gate + Sync, F: Source<Entry,
 ) -> (O, Option<Piped>)
     requires workers { workers ≤ 64 }
     requires source { F.can_give source }
-    ensures { (items : List log_entry) × F.gives source result.0 items
-        × IfSome result.1 (IsDone tables.now items) }
+    ensures { (batches : List read_batch) × F.gives source result.0 batches
+        × IfSome result.1 (IsDone tables.now (all_items batches)) }
 {
     let piping = Piping {
         alloc,

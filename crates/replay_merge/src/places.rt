@@ -6,10 +6,11 @@ ghost use Rattle.clog_crash.specs.Folder.{IsHeld};
 ghost use Rattle.clog_disk.specs.Files.{IsThere};
 ghost use Rattle.clog_folder.specs.Listing.{AreRows, IsSegmentAt, segment_cmp};
 ghost use Rattle.clog_folder.specs.Passing.{IsUntouched, TellsEach};
-ghost use Rattle.replay_merge.specs.declared.piped.Entry.{Entry as log_entry};
+ghost use Rattle.replay_merge.specs.declared.piped.Batch.{Batch as read_batch};
+ghost use Rattle.replay_merge.specs.Entries.{all_items};
 ghost use Rattle.replay_merge.specs.Places.{GivesLength, GivesPlace, GivesPlaces, PassesOther};
 
-use crate::piped::Entry;
+use crate::piped::Batch;
 use crate::streaming::stream_file;
 use clog_base::{FILE_LIMIT, Name, Quantity};
 use clog_disk::Disk;
@@ -48,7 +49,7 @@ fn length_of<D: Disk>(disk: &mut D, name: &Name) -> Result<u32, OpenFault>
 }
 
 /// Puts the entries of the segment of a place, an id and a version, which is there under its name.
-fn stream_place<D: Disk, P: Sink<Entry>>(
+fn stream_place<D: Disk, P: Sink<Batch>>(
     alloc: Global,
     disk: &mut D,
     place: (u64, u32),
@@ -59,9 +60,10 @@ fn stream_place<D: Disk, P: Sink<Entry>>(
 ) -> Result<(), OpenFault>
     requires there { IsThere (D.files disk.old) name.now }
     requires sink { P.can_put to.old }
-    ensures gives { (items : List log_entry) × P.can_put to.new × P.goes_on to.old items to.new
+    ensures gives { (batches : List read_batch) × P.can_put to.new
+        × P.goes_on to.old batches to.new
         × GivesPlace ignore last (D.files disk.old) (D.faults disk.old) (D.faults disk.new)
-        (place, name.now) items result }
+        (place, name.now) (all_items batches) result }
     ensures keeps { IsUntouched D.files D.changes D.leaves D.moment D.since D.read_at D.lasted_at
         D.faults disk.old disk.new }
     ensures quiet { TellsEach (D.faults disk.old) (D.faults disk.new) result }
@@ -88,7 +90,7 @@ fn stream_place<D: Disk, P: Sink<Entry>>(
 ///   leaves it, and only without `ignore`.
 /// - `Limit(SegmentBytes, ..)`: a segment has more bytes; none of them is read.
 /// - `OutOfMemory`: memory was refused.
-pub(crate) fn stream_places<D: Disk, P: Sink<Entry>>(
+pub(crate) fn stream_places<D: Disk, P: Sink<Batch>>(
     alloc: Global,
     disk: &mut D,
     names: SegmentNames,
@@ -98,9 +100,10 @@ pub(crate) fn stream_places<D: Disk, P: Sink<Entry>>(
     requires there { IfSome (D.files disk.old) (λ held.
         AreRows segment_cmp IsSegmentAt (IsHeld held) names.entries) }
     requires sink { P.can_put to.old }
-    ensures gives { (items : List log_entry) × P.can_put to.new × P.goes_on to.old items to.new
+    ensures gives { (batches : List read_batch) × P.can_put to.new
+        × P.goes_on to.old batches to.new
         × GivesPlaces ignore (D.files disk.old) (D.faults disk.old) (D.faults disk.new)
-        names.entries items result }
+        names.entries (all_items batches) result }
     ensures keeps { IsUntouched D.files D.changes D.leaves D.moment D.since D.read_at D.lasted_at
         D.faults disk.old disk.new }
     ensures quiet { TellsEach (D.faults disk.old) (D.faults disk.new) result }

@@ -7,12 +7,14 @@ ghost use Rattle.replay_merge.specs.Logged.{ReadsLog};
 
 use crate::alone::Alone;
 use crate::piped::Piped;
+use crate::piping::Piping;
 use crate::places::stream_places;
 use crate::settling::settle;
 use clog_base::Position;
 use clog_cells::CellMap;
 use clog_disk::Disk;
 use clog_folder::{OpenFault, SegmentNames, TableHeld};
+use clog_io::OpenGate;
 use std::alloc::Global;
 
 /// What the log of a folder restores, and how far it reaches.
@@ -49,16 +51,20 @@ pub fn read_log<D: Disk>(
         D.faults disk.old disk.new }
     ensures quiet { TellsEach (D.faults disk.old) (D.faults disk.new) result }
 {
-    let mut alone = Alone {
+    let gate = OpenGate::new();
+    let piping = Piping {
         alloc,
         tables,
+        gate: &gate,
+    };
+    let mut alone = Alone {
+        piping,
         piped: Some(Piped::new(alloc)),
         top: Position { id: 0, offset: 0 },
     };
     let streamed = stream_places(alloc, disk, names, false, &mut alone);
     let Alone {
-        alloc: _,
-        tables: _,
+        piping: _,
         piped,
         top,
     } = alone;

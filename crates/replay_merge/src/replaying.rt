@@ -19,11 +19,11 @@ use std::thread::Threads;
 /// What a folder restores to, past damage where it is to be ignored, by 1 to 64 workers: the same
 /// for every number of them. It writes nothing.
 ///
-/// The caller reads table files whole, and then segments in pieces of at most 64 KiB. It puts their
-/// entries into a queue of 256 places, from which the workers take them; where the queue is full,
-/// it takes an entry itself. A worker for which no thread can be started is run by the caller
-/// behind the last entry. So memory is wanted for cells, table files, a piece and the entries that
-/// end in it, and those that stand in the queue, and not for the segments.
+/// The caller reads table files whole, and then segments in pieces of at most 64 KiB. The entries
+/// that end in a piece are a batch, which it puts into a queue of 256 places. The workers take them
+/// from there; where the queue is full, it takes a batch itself. A worker for which no thread can
+/// be started is run by the caller behind the last batch. So memory is wanted for cells, table
+/// files, a piece and the batches in the queue, and not for the segments.
 ///
 /// The gate is told, of each worker as a writer of its number: `Started` before its first entry,
 /// `Deposited` after each entry that it has merged, and `Returned` at its end. Of an entry that the

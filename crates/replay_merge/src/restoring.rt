@@ -3,7 +3,7 @@ ghost use Rattle.std.specs.Prelude.{◌++◌, IfOk, List, OnOk, map};
 ghost use Rattle.clog_cells.specs.Merge.{AreInOrder, IsMerge};
 ghost use Rattle.clog_crash.specs.Folder.{cells_of_tables};
 ghost use Rattle.clog_folder.specs.Tables.{read_of};
-ghost use Rattle.replay_merge.specs.declared.piped.Entry.{Entry as log_entry};
+ghost use Rattle.replay_merge.specs.Entries.{Entry as log_entry};
 ghost use Rattle.replay_merge.specs.Piped.{IsDone};
 ghost use Rattle.replay_merge.specs.Restoring.{IsRestoredOf};
 

@@ -6,7 +6,7 @@ ghost use Rattle.clog_folder.specs.Listing.{AreRows, IsSegmentAt, segment_cmp};
 ghost use Rattle.clog_folder.specs.Passing.{IsUntouched, TellsEach};
 ghost use Rattle.replay_merge.specs.Settling.{ChecksPiped, IsFirstFault, PipesFolder, SettlesTo};
 
-use crate::piped::{Entry, Piped};
+use crate::piped::{Batch, Piped};
 use crate::source::pipe_places;
 use clog_base::segment_name;
 use clog_disk::Disk;
@@ -81,7 +81,7 @@ pub(crate) fn settle(
 pub(crate) fn pipe_folder<R: Threads + Wait + Sync, D: Disk, G: Gate + Sync>(
     rt: &R,
     alloc: Global,
-    queue: Queue<Entry>,
+    queue: Queue<Batch>,
     tables: &[TableHeld],
     disk: &mut D,
     names: SegmentNames,

@@ -3,11 +3,11 @@ ghost use Rattle.std.specs.Prelude.{◌≡◌, ◌≤◌, IfSome, List};
 ghost use Rattle.clog_crash.specs.Folder.{IsHeld};
 ghost use Rattle.clog_folder.specs.Listing.{AreRows, IsSegmentAt, segment_cmp};
 ghost use Rattle.clog_folder.specs.Passing.{IsUntouched, TellsEach};
-ghost use Rattle.replay_merge.specs.declared.piped.Entry.{Entry as log_entry};
+ghost use Rattle.replay_merge.specs.Entries.{Entry as log_entry, all_items};
 ghost use Rattle.replay_merge.specs.Piped.{IsDone};
 ghost use Rattle.replay_merge.specs.Places.{GivesPlaces};
 
-use crate::piped::{Entry, Piped};
+use crate::piped::{Batch, Piped};
 use crate::piping::pipe;
 use crate::places::stream_places;
 use clog_disk::Disk;
@@ -31,18 +31,18 @@ pub(crate) struct FolderSource<'a, D> {
     pub(crate) ignore: bool,
 }
 
-impl<'a, D: Disk> Source<Entry, (&'a mut D, Result<(), OpenFault>)> for FolderSource<'a, D> {
+impl<'a, D: Disk> Source<Batch, (&'a mut D, Result<(), OpenFault>)> for FolderSource<'a, D> {
     ghost can_give = { λ s. IfSome (D.files s.disk.now) (λ held.
         AreRows segment_cmp IsSegmentAt (IsHeld held) s.names.entries) };
 
-    ghost gives = { λ s o items. (o.0.ghost_name ≡ s.disk.ghost_name)
+    ghost gives = { λ s o batches. (o.0.ghost_name ≡ s.disk.ghost_name)
         × GivesPlaces s.ignore (D.files s.disk.now) (D.faults s.disk.now) (D.faults o.0.now)
-        s.names.entries items o.1
+        s.names.entries (all_items batches) o.1
         × IsUntouched D.files D.changes D.leaves D.moment D.since D.read_at D.lasted_at D.faults
         s.disk.now o.0.now
         × TellsEach (D.faults s.disk.now) (D.faults o.0.now) o.1 };
 
-    fn give<P: Sink<Entry>>(self, to: &mut P) -> (&'a mut D, Result<(), OpenFault>) {
+    fn give<P: Sink<Batch>>(self, to: &mut P) -> (&'a mut D, Result<(), OpenFault>) {
         let FolderSource {
             alloc,
             disk,
@@ -65,7 +65,7 @@ fn take_back<D>(disk: &mut D)
 pub(crate) fn pipe_places<R: Threads + Wait + Sync, D: Disk, G: Gate + Sync>(
     rt: &R,
     alloc: Global,
-    queue: Queue<Entry>,
+    queue: Queue<Batch>,
     tables: &[TableHeld],
     disk: &mut D,
     names: SegmentNames,

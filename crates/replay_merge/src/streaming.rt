@@ -1,14 +1,15 @@
 //! A segment's file is read in pieces of at most 64 KiB, and its entries are put into a sink as
 //! they come. So no more of it is held than a piece and an entry that is not whole yet.
-ghost use Rattle.std.specs.Prelude.{◌≡◌, ◌+◌, ◌≤◌, IfOk, List, Some, length, map};
+ghost use Rattle.std.specs.Prelude.{◌≡◌, ◌+◌, ◌≤◌, IfOk, List, Some, length};
 ghost use Rattle.clog_spec.specs.Sizes.{file_limit};
 ghost use Rattle.clog_disk.specs.Files.{IsLength};
 ghost use Rattle.clog_scan.specs.declared.answer.End.{End as segment_end};
 ghost use Rattle.clog_folder.specs.Passing.{IsUntouched, TellsEach};
-ghost use Rattle.replay_merge.specs.declared.piped.Entry.{Entry as log_entry};
-ghost use Rattle.replay_merge.specs.Streaming.{FeedsBytes, Streams, item_of};
+ghost use Rattle.replay_merge.specs.declared.piped.Batch.{Batch as read_batch};
+ghost use Rattle.replay_merge.specs.Entries.{all_items};
+ghost use Rattle.replay_merge.specs.Streaming.{FeedsBytes, Streams};
 
-use crate::piped::Entry;
+use crate::piped::Batch;
 use clog_base::{Name, OutOfMemory};
 use clog_disk::Disk;
 use clog_folder::{OpenFault, fault_of};
@@ -18,26 +19,6 @@ use std::alloc::Global;
 
 /// How many bytes are asked for at once.
 const PIECE: u32 = 65536;
-
-/// Puts the entries of a piece, of the segment of an id.
-fn put_wholes<P: Sink<Entry>>(id: u64, wholes: Vec<Whole>, to: &mut P)
-    requires { P.can_put to.old }
-    ensures { P.can_put to.new × P.goes_on to.old (map (item_of id) wholes.items) to.new }
-{
-    for whole in wholes {
-        let Whole {
-            start,
-            end,
-            payload,
-        } = whole;
-        to.push(Entry {
-            id,
-            start,
-            end,
-            payload,
-        });
-    }
-}
 
 /// Feeds a piece, whose numbers are bytes.
 fn feed_bytes(scanner: &mut Scanner, piece: &[u8]) -> Result<Vec<Whole>, OutOfMemory>
@@ -63,7 +44,7 @@ fn end_of(scanner: &Scanner, fed: u32) -> End
 
 /// Reads the segment of an id, a file of `len` bytes, and puts its entries. It is read to its end,
 /// also where its entries end before. Bytes behind `len` that have come meanwhile are not read.
-pub(crate) fn stream_file<D: Disk, P: Sink<Entry>>(
+pub(crate) fn stream_file<D: Disk, P: Sink<Batch>>(
     alloc: Global,
     disk: &mut D,
     name: &Name,
@@ -74,9 +55,10 @@ pub(crate) fn stream_file<D: Disk, P: Sink<Entry>>(
     requires short { len ≤ file_limit }
     requires length { IsLength (D.files disk.old) name.now len }
     requires sink { P.can_put to.old }
-    ensures streams { (items : List log_entry) × P.can_put to.new × P.goes_on to.old items to.new
-        × Streams (D.files disk.old) (D.faults disk.old) (D.faults disk.new) name.now id items
-        result }
+    ensures streams { (batches : List read_batch) × P.can_put to.new
+        × P.goes_on to.old batches to.new
+        × Streams (D.files disk.old) (D.faults disk.old) (D.faults disk.new) name.now id
+        (all_items batches) result }
     ensures keeps { IsUntouched D.files D.changes D.leaves D.moment D.since D.read_at D.lasted_at
         D.faults disk.old disk.new }
     ensures quiet { TellsEach (D.faults disk.old) (D.faults disk.new) result }
@@ -98,7 +80,7 @@ pub(crate) fn stream_file<D: Disk, P: Sink<Entry>>(
             Err(_) => return Err(OpenFault::OutOfMemory),
         };
         fed += piece.len() as u32;
-        put_wholes(id, wholes, to);
+        to.push(Batch { id, wholes });
     }
     told_at_the_end();
     Ok(end_of(&scanner, fed))

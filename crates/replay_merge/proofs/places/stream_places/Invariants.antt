@@ -1,6 +1,7 @@
 use Rattle.std.proofs.Common.{◌≡◌, ◌++◌, List, IfSome}
 use Rattle.clog_folder.specs.Passing.{IsUntouched}
-use Rattle.replay_merge.specs.declared.piped.Entry.{Entry}
+use Rattle.replay_merge.specs.declared.piped.Batch.{Batch}
+use Rattle.replay_merge.specs.Entries.{all_items}
 use Rattle.replay_merge.specs.Places.{AreGiven}
 use Rattle.replay_merge.proofs.places.stream_places.Given as goal
 
@@ -14,7 +15,7 @@ invariant-loop-place g l = record {
   quiet : g.D.Disk.faults l.disk ≡ g.D.Disk.faults l.fn.disk;
   parts : l.fn.names.entries ≡ l.yielded ++ l.place-iterator;
   can_put : g.P.Sink.can_put l.to;
-  items : (items : List Entry) × g.P.Sink.goes_on l.fn.to items l.to
+  given : (batches : List Batch) × g.P.Sink.goes_on l.fn.to batches l.to
       × IfSome (g.D.Disk.files l.fn.disk) (λ held.
-      AreGiven l.ignore l.greatest held l.yielded items);
+      AreGiven l.ignore l.greatest held l.yielded (all_items batches));
 }

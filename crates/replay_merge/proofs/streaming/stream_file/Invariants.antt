@@ -1,6 +1,7 @@
 use Rattle.std.proofs.Common.{◌≡◌, ◌-◌, ◌≤◌, List}
 use Rattle.clog_folder.specs.Passing.{IsUntouched}
-use Rattle.replay_merge.specs.declared.piped.Entry.{Entry}
+use Rattle.replay_merge.specs.declared.piped.Batch.{Batch}
+use Rattle.replay_merge.specs.Entries.{all_items}
 use Rattle.replay_merge.specs.Streaming.{HasStreamed}
 use Rattle.replay_merge.proofs.streaming.stream_file.Given as goal
 
@@ -19,6 +20,6 @@ invariant-loop-fed g l = record {
   len : l.scanner.len ≡ l.len;
   most : l.fed ≤ l.len;
   can_put : g.P.Sink.can_put l.to;
-  items : (items : List Entry) × g.P.Sink.goes_on l.fn.to items l.to
-      × HasStreamed (g.D.Disk.files l.fn.disk) l.name l.len l.scanner items;
+  given : (batches : List Batch) × g.P.Sink.goes_on l.fn.to batches l.to
+      × HasStreamed (g.D.Disk.files l.fn.disk) l.name l.len l.scanner (all_items batches);
 }

@@ -1,4 +1,4 @@
-use Rattle.replay_merge.proofs.piping.PipingWorkEntryPiped.begin.Goals as goal
+use Rattle.replay_merge.proofs.piping.PipingWorkBatchPiped.begin.Goals as goal
 
 pub returns : goal.returns
 returns g c = c.new.ensures c.args.self.now.tables.now
