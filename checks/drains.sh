@@ -66,13 +66,15 @@ for call in openat write fsync rename unlink; do
     that "a drained run that is killed at $call loses nothing ($lost)" test -z "$lost"
 done
 
-# One letter a call: the segment is synced, the table file put, the archive name given, the segment
-# removed; and the folder synced behind each of the three.
+# One letter a call: the segment is synced, the unfinished file is, which then is the table file, the
+# next one, which then has the archive name, and the segment removed; the folder synced behind each
+# of the three.
 rm -rf commitlog
 put a 0 | strace -o "$box/trace" -y -e trace=fsync,rename,unlink \
     "$program" apply --drain --archive >/dev/null
-order=$(sed -n -e '/^fsync([0-9]*<[^>]*CommitLog-6-/s/.*/s/p' -e '/^rename(.*Table-0-1/s/.*/t/p' \
+order=$(sed -n -e '/^fsync([0-9]*<[^>]*CommitLog-6-/s/.*/s/p' \
+    -e '/^fsync([0-9]*<[^>]*being-published/s/.*/u/p' -e '/^rename(.*Table-0-1/s/.*/t/p' \
     -e '/^rename(.*Archive-/s/.*/a/p' -e '/^unlink(.*CommitLog-6-/s/.*/r/p' \
     -e '/^fsync([0-9]*<[^>]*commitlog>/s/.*/f/p' "$box/trace" | tr -d '\n')
 that "synced, put, archived, removed, each lasting before the next ($order)" sh -c \
-    'case $0 in s*tfafrf) ;; *) exit 1 ;; esac' "$order"
+    'case $0 in s*utfuafrf) ;; *) exit 1 ;; esac' "$order"

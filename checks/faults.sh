@@ -34,17 +34,18 @@ tells_the_call() {
     file=${file#Archive-}
     file=commitlog/${file%%[\">]*}:
     case $hit in
-    *Archive-*) tells "link $file" ;;
+    *Archive-*) tells "link $file" "sync commitlog/Archive-${file#*/}" ;;
     rename*) tells "publish $file" ;;
     unlink*) tells "remove $file" ;;
     *being-published*) tells 'publish commitlog/Table-' 'link commitlog/CommitLog-6-' ;;
-    fsync*CommitLog*) tells "sync $file" ;;
-    fsync*) tells 'sync commitlog/CommitLog-6-' 'publish commitlog/Table-' \
+    fsync*CommitLog* | fsync*Table-*) tells "sync $file" ;;
+    fsync*) tells 'sync commitlog:' 'sync commitlog/CommitLog-6-' 'publish commitlog/Table-' \
         'link commitlog/CommitLog-6-' 'remove commitlog/CommitLog-6-' ;;
-    write* | fcntl* | *O_WRONLY* | *AT_EMPTY_PATH*) tells "append $file" ;;
+    write* | fcntl* | *O_WRONLY*) tells "append $file" ;;
+    *AT_EMPTY_PATH*) tells "append $file" "read $file" ;;
     statx*) tells 'list commitlog:' "measure $file" "read $file" "publish $file" "link $file" \
-        "remove $file" ;;
-    *CommitLog* | *Table-*) tells "read $file" "link $file" ;;
+        "remove $file" "sync $file" ;;
+    *CommitLog* | *Table-*) tells "read $file" "link $file" "sync $file" ;;
     *) tells 'list commitlog:' 'append commitlog/CommitLog-6-' ;;
     esac
 }

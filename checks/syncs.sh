@@ -25,6 +25,17 @@ that 'all after the write' sh -c \
 that 'and before the report' sh -c \
     'sed "/applied/q" "$0" | grep -c "fsync(" | grep -qx 3' "$box/trace"
 
+# A segment's name lasts before the next segment is made, and the last one's before the report. One
+# letter a call: made, written, synced, the folder synced, told.
+fresh
+lines a b c d e >input
+expect 'three segments, traced' 0 'applied 5' '' \
+    strace -o "$box/trace" -y -e trace=openat,write,fsync "$program" apply --segment-kib 4 <input
+order=$(sed -n -e '/^openat(.*CommitLog-6-.*O_CREAT/s/.*/m/p' -e '/^write(.*CommitLog-6-/s/.*/w/p' \
+    -e '/^fsync([0-9]*<[^>]*CommitLog-6-/s/.*/s/p' -e '/^fsync([0-9]*<[^>]*commitlog>/s/.*/f/p' \
+    -e '/^write(.*applied/s/.*/t/p' "$box/trace" | tr -d '\n' | sed 's/[ws]*f/f/g')
+that "each name lasts before the next segment ($order)" test "$(echo "$order" | tr -d ws)" = mfmfmft
+
 fresh
 apply_line expect 'a sync is refused' 6 'error 6: disk fault' \
     'pinsilver: sync commitlog/CommitLog-6-*.log: Input/output error' \
@@ -48,3 +59,21 @@ expect 'the segment goes' 0 'applied 0' '' strace -o "$box/trace" -y \
     -e trace=fsync,unlink,unlinkat "$program" apply </dev/null
 that 'behind a sync of the names' sh -c \
     'sed "/unlink.*CommitLog-6-/q" "$0" | grep -q "fsync(.*/commitlog>.*= 0$"' "$box/trace"
+
+# What a run finds is made to last before it changes anything, and then the names: a program that
+# was killed may have synced none of it. A folder that is refused is not synced.
+fresh
+apply_line "$program" apply --archive --drain >/dev/null
+apply_line "$program" apply >/dev/null
+found=$(ls commitlog | wc -l)
+apply_line expect 'a run over files' 0 'applied 1' '' \
+    strace -o "$box/trace" -y -e trace=fsync,rename,openat,write "$program" apply
+sed '/being-published/,$d' "$box/trace" | sed -n 's/^fsync([0-9]*<\(.*\)>).*= 0$/\1/p' | sort -u |
+    sed 's/.*commitlog\/.*/file/; s/.*commitlog$/names/; /^\//s/.*/above/' | sort | uniq -c |
+    tr -s ' \n' ' ' >"$box/synced"
+that "each file of $found and the names are synced first" \
+    test "$(cat "$box/synced")" = " 1 above $found file 1 names "
+printf x >commitlog/Table-0-1.tbl
+apply_line expect 'a damaged folder' 8 'error 8: Table-0-1.tbl: Short' '' \
+    strace -o "$box/trace" -e trace=fsync "$program" apply
+that 'is not synced' test "$(calls 'fsync(')" -eq 0
