@@ -10,6 +10,8 @@ if has flock; then
     that 'nothing is written' test -z "$(ls commitlog)"
     expect 'scan takes no lock' 11 'error 11: no file CommitLog-6-5.log' '' \
         flock commitlog "$pinsilver" scan CommitLog-6-5.log
+    expect 'replay takes no lock' 0 'segments 0
+**' '' flock commitlog "$pinsilver" replay
     apply_line expect 'the lock is free again' 0 'applied 1' '' "$pinsilver" apply
 else
     skipped 'no flock'
